@@ -1,0 +1,24 @@
+-- What the program's words mean.
+use Rattle.std.specs.Prelude.{ℕ, ◌&&◌, if◌then◌else◌, List, [], ◌∷◌, Option, Some, None, IsSomeAnd, ◌≡◌, codes, string_bytes}
+use Rattle.std.specs.Str.{bytes_eq}
+use Rattle.s3r.specs.declared.words.Words.{Words}
+use Rattle.s3r.specs.declared.words.Place.{Place}
+
+-- the folder, and how many regions there are
+pub record Meaning : Type 0 where
+  pub folder : List ℕ
+  pub regions : ℕ
+
+abbrev pub words_in : List (List ℕ) → Option Meaning
+words_in (folder ∷ regions ∷ task ∷ []) = if bytes_eq regions (codes "1") && bytes_eq task (codes "do") then Some (record { folder = folder; regions = 1 }) else None
+words_in _ = None
+
+abbrev pub words_seen : Words → Meaning
+words_seen words = record { folder = words.folder.now; regions = words.regions }
+
+abbrev pub place_seen : Place → Meaning
+place_seen place = record { folder = string_bytes place.folder; regions = place.regions }
+
+-- They are words of the program, over so many volumes.
+abbrev pub AreMeant : List (List ℕ) → ℕ → Type 0
+AreMeant words volumes = IsSomeAnd (words_in words) (λ meaning. meaning.regions ≡ volumes)

@@ -1,0 +1,92 @@
+//! The replication desk as a program. So far it makes buckets in one volume: requests are taken from the input, and
+//! each is answered on the output once its command is stable.
+#![tactic(auto)]
+
+ghost use Rattle.std.specs.Prelude.{◌≡◌, ◌↔◌, ◌⊎◌, map, string_bytes, IsTrue};
+ghost use Rattle.s3r_world.specs.Outside.{KeepsShape, NoneFalls, Rises};
+ghost use Rattle.s3r.specs.Run.{Ran, IsStatus};
+ghost use Rattle.s3r.specs.Words.{AreMeant};
+
+mod answer;
+mod buffer;
+mod desk;
+mod ending;
+mod head;
+mod requests;
+mod run;
+mod sending;
+mod serve;
+mod stop;
+#[cfg(test)]
+mod tests;
+mod volume;
+mod words;
+
+use run::run;
+use s3r_world::{MemoryWorld, RealWorld, World};
+use std::alloc::Global;
+use std::process::ExitCode;
+use std::rt::Env;
+use std::{env, io};
+use words::{place_of, read_words};
+
+/// The words aren't the program's.
+const NOT_MEANT: u8 = 2;
+
+/// There was no memory.
+const NO_MEMORY: u8 = 6;
+
+/// Does what the words say, over a world with as many volumes as they say. It answers the status that the program
+/// ends with.
+pub fn s3r<W: World>(alloc: Global, words: &[String], world: &mut W) -> u8
+    ensures meant { (result ≡ 2) ↔ (AreMeant (map string_bytes words.now) ((W.shape world.old).volumes) → ⊥) }
+    ensures unmeant { result ≡ 2 → world.new ≡ world.old }
+    ensures known { IsStatus result }
+
+    // What the requests were, what was answered, and what the volume has, by the status.
+    ensures done { IsTrue W.tells → AreMeant (map string_bytes words.now) ((W.shape world.old).volumes) → Ran result ((W.shape world.old).room 0) (W.outside world.old) (W.outside world.new) }
+
+    // Each fault of the outside was counted.
+    ensures input { result ≡ 3 → Rises 1 (W.faults world.old).input (W.faults world.new).input }
+    ensures output { result ≡ 4 → Rises 1 (W.faults world.old).output (W.faults world.new).output }
+    ensures volume { result ≡ 5 → Rises 1 ((W.faults world.old).volume 0) ((W.faults world.new).volume 0) }
+
+    ensures counts { NoneFalls (W.faults world.old) (W.faults world.new) }
+    ensures goes { W.goes world.old world.new }
+    ensures shape { KeepsShape (W.shape world.old) (W.shape world.new) }
+{
+    let Some(words) = read_words(words) else {
+        return NOT_MEANT;
+    };
+    if words.regions != world.volumes() {
+        return NOT_MEANT;
+    }
+    run(alloc, world)
+}
+
+// The words that the program was started with, without its name.
+fn words_given(rt: &(impl Env + AllocGlobal)) -> io::Result<Vec<String>> {
+    Ok(env::args(rt)?.skip(1).collect(rt.alloc())?)
+}
+
+fn start(rt: HostRuntime) -> u8 {
+    let alloc = rt.alloc();
+    let Ok(words) = words_given(&rt) else {
+        return NO_MEMORY;
+    };
+    match place_of(alloc, &words) {
+        Ok(Some(place)) => match RealWorld::new(rt, place.folder.as_str(), place.regions) {
+            Ok(mut world) => s3r(alloc, &words, &mut world),
+            Err(_) => NO_MEMORY,
+        },
+        Ok(None) => match MemoryWorld::new(alloc, 0, 0, Vec::new(alloc), Vec::new(alloc)) {
+            Ok(mut world) => s3r(alloc, &words, &mut world),
+            Err(_) => NO_MEMORY,
+        },
+        Err(_) => NO_MEMORY,
+    }
+}
+
+fn main(rt: HostRuntime) -> ExitCode {
+    ExitCode::from(start(rt))
+}

@@ -1,0 +1,7 @@
+mod Buffers
+mod Bytes
+pub mod Elsewhere
+mod Finds
+pub mod Fronts
+mod Gated
+mod Headers

@@ -1,0 +1,9 @@
+pub mod Append
+pub mod Create
+pub mod Header
+pub mod Laws
+pub mod Leaves
+pub mod Pieces
+pub mod Scan
+pub mod Step
+pub mod Volume

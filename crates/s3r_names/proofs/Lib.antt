@@ -1,0 +1,2 @@
+pub mod BucketNames
+pub mod BucketExamples

@@ -1,0 +1,106 @@
+-- The laws of each field.
+use Rattle.std.proofs.Common.{◌≡◌, ℕ, zero, suc, ◌^◌, ◌<◌, ◌≤◌, Bool, true, false, cond, ltb, List, [], ◌∷◌, ◌++◌, length, take, drop, Ok, Err, refl, sym, subst, arith}
+use Rattle.std.specs.Int.{Width, w16, byte_len, from_be_bytes, to_be_bytes}
+use Rattle.std.proofs.lemmas.Bool.{ltb-false, le-ltb}
+use Rattle.std.proofs.lemmas.List.{take_at, drop_at, take-append-drop, length-append, length-take}
+use Rattle.std.proofs.lemmas.Nat.{be_bytes_2, from_be_bytes-to_be_bytes_2}
+use Rattle.s3r_names.specs.Bucket.{is_bucket_name}
+use Rattle.s3r_names.proofs.BucketNames.{name_is}
+use Rattle.s3r_record.specs.Fields.{text, flag}
+use Rattle.s3r_record.specs.Reading.{Unread, place, past, number_at, flag_at, text_at, tested_at}
+use Rattle.s3r_record.proofs.ReaderLaws.{IsBytes, IsBytes-drop, IsBytes-take, IsBytes-rest, guard_passed, guard_missed, ok_is, Takes, Takes-then, left, Reads, take_field}
+
+-- ---- numbers
+
+pub record IsWide (w : Width) (limit : ℕ) : Type 0 where
+  pub len : (n : ℕ) → length (to_be_bytes w n) ≡ byte_len w
+  pub back : (bytes : List ℕ) → length bytes ≡ byte_len w → IsBytes bytes → to_be_bytes w (from_be_bytes w bytes) ≡ bytes
+  pub again : (n : ℕ) → n < limit → from_be_bytes w (to_be_bytes w n) ≡ n
+  pub below : (bytes : List ℕ) → IsBytes bytes → from_be_bytes w bytes < limit
+
+pub wide16 : IsWide w16 (2 ^ 16)
+wide16 = record {
+  len = λ n. refl;
+  back = λ bytes len fits. be_bytes_2 bytes _ len fits refl;
+  again = λ n lt. from_be_bytes-to_be_bytes_2 n lt;
+  below = λ bytes fits. omega (arith, fits 0, fits 1);
+}
+
+number_takes : (w : Width) (limit : ℕ) (wide : IsWide w limit) (u : Unread) (x : ℕ × Unread) → IsBytes u.bytes → number_at w u ≡ Ok x → Takes u.bytes (to_be_bytes w x.0) x.1.bytes × (x.0 < limit)
+number_takes w limit wide u x fits e =
+    let g = guard_missed (ltb (length u.bytes) (byte_len w)) (place u) (from_be_bytes w (take (byte_len w) u.bytes), past (byte_len w) u) x e in
+    let long : byte_len w ≤ length u.bytes = ltb-false _ _ g.0 in
+    let front : to_be_bytes w (from_be_bytes w (take (byte_len w) u.bytes)) ≡ take (byte_len w) u.bytes = wide.back (take (byte_len w) u.bytes) (omega (arith, length-take (byte_len w) u.bytes)) (IsBytes-take (byte_len w) u.bytes fits) in
+    subst (λ (y : ℕ × Unread). Takes u.bytes (to_be_bytes w y.0) y.1.bytes × (y.0 < limit)) g.1
+    (record { parts = rw front (sym (take-append-drop (byte_len w) u.bytes)); rest_fits = IsBytes-drop (byte_len w) u.bytes fits }, wide.below (take (byte_len w) u.bytes) (IsBytes-take (byte_len w) u.bytes fits))
+
+number_again : (w : Width) (limit : ℕ) (wide : IsWide w limit) (whole n : ℕ) (rest : List ℕ) → n < limit → number_at w (left whole (to_be_bytes w n ++ rest)) ≡ Ok (n, left whole rest)
+number_again w limit wide whole n rest lt =
+    let len = wide.len n in
+    let long : ltb (length (to_be_bytes w n ++ rest)) (byte_len w) ≡ false = le-ltb _ _ (omega (arith, length-append (to_be_bytes w n) rest)) in
+    rw (long, take_at (to_be_bytes w n) rest (byte_len w) len, drop_at (to_be_bytes w n) rest (byte_len w) len, wide.again n lt) refl
+
+pub number_law : (w : Width) (limit : ℕ) → IsWide w limit → Reads (number_at w) (to_be_bytes w) (λ n. n < limit)
+number_law w limit wide = record { takes = number_takes w limit wide; again = number_again w limit wide }
+
+-- ---- flags
+
+flag_takes : (whole : ℕ) (bytes : List ℕ) (x : Bool × Unread) → IsBytes bytes → flag_at (left whole bytes) ≡ Ok x → Takes bytes (flag x.0) x.1.bytes × Unit {0}
+unfolding flag_at
+flag_takes whole [] x fits e = absurd cc
+flag_takes whole (zero ∷ bytes) x fits e =
+    subst (λ (y : Bool × Unread). Takes (0 ∷ bytes) (flag y.0) y.1.bytes × Unit {0}) (ok_is (false, left whole bytes) x e) (record { parts = refl; rest_fits = IsBytes-rest 0 bytes fits }, tt)
+flag_takes whole (suc zero ∷ bytes) x fits e =
+    subst (λ (y : Bool × Unread). Takes (1 ∷ bytes) (flag y.0) y.1.bytes × Unit {0}) (ok_is (true, left whole bytes) x e) (record { parts = refl; rest_fits = IsBytes-rest 1 bytes fits }, tt)
+flag_takes whole (suc (suc b) ∷ bytes) x fits e = absurd cc
+
+flag_again : (whole : ℕ) (x : Bool) (rest : List ℕ) → Unit {0} → flag_at (left whole (flag x ++ rest)) ≡ Ok (x, left whole rest)
+unfolding flag_at
+flag_again whole true rest h = refl
+flag_again whole false rest h = refl
+
+pub flag_law : Reads flag_at flag (λ _. Unit {0})
+flag_law = record { takes = λ u x fits e. flag_takes u.whole u.bytes x fits e; again = flag_again }
+
+-- ---- texts
+
+text_takes : (u : Unread) (x : List ℕ × Unread) → IsBytes u.bytes → text_at u ≡ Ok x → Takes u.bytes (text x.0) x.1.bytes × (length x.0 < 2 ^ 16)
+unfolding text_at
+text_takes u x fits e =
+    let n = take_field (number_law w16 (2 ^ 16) wide16) (λ len. cond (ltb (length len.1.bytes) len.0) (Err (place u)) (Ok (take len.0 len.1.bytes, past len.0 len.1))) u x fits e in
+    let g = guard_missed (ltb (length n.rest.bytes) n.value) (place u) (take n.value n.rest.bytes, past n.value n.rest) x n.gave in
+    let long : n.value ≤ length n.rest.bytes = ltb-false _ _ g.0 in
+    let len : length (take n.value n.rest.bytes) ≡ n.value = omega (arith, length-take n.value n.rest.bytes) in
+    let second : Takes n.rest.bytes (take n.value n.rest.bytes) (drop n.value n.rest.bytes) = record { parts = sym (take-append-drop n.value n.rest.bytes); rest_fits = IsBytes-drop n.value n.rest.bytes n.takes.rest_fits } in
+    let both = Takes-then u.bytes (to_be_bytes w16 n.value) n.rest.bytes (take n.value n.rest.bytes) (drop n.value n.rest.bytes) n.takes second in
+    let whole : Takes u.bytes (text (take n.value n.rest.bytes)) (drop n.value n.rest.bytes) = subst (λ (k : ℕ). Takes u.bytes (to_be_bytes w16 k ++ take n.value n.rest.bytes) (drop n.value n.rest.bytes)) (sym len) both in
+    subst (λ (p : List ℕ × Unread). Takes u.bytes (text p.0) p.1.bytes × (length p.0 < 2 ^ 16)) g.1 (whole, omega (arith, n.fits))
+
+text_again : (whole : ℕ) (bytes rest : List ℕ) → length bytes < 2 ^ 16 → text_at (left whole (text bytes ++ rest)) ≡ Ok (bytes, left whole rest)
+unfolding text_at
+text_again whole bytes rest lt =
+    let long : ltb (length (bytes ++ rest)) (length bytes) ≡ false = le-ltb _ _ (omega (arith, length-append bytes rest)) in
+    rw (number_again w16 (2 ^ 16) wide16 whole (length bytes) (bytes ++ rest) lt, long, take_at bytes rest (length bytes) refl, drop_at bytes rest (length bytes) refl) refl
+
+pub text_law : Reads text_at text (λ bytes. length bytes < 2 ^ 16)
+text_law = record { takes = text_takes; again = text_again }
+
+-- ---- texts that pass a test
+
+tested_takes : (test : List ℕ → Bool) (u : Unread) (x : List ℕ × Unread) → IsBytes u.bytes → tested_at test u ≡ Ok x → Takes u.bytes (text x.0) x.1.bytes × (test x.0 ≡ true)
+unfolding tested_at
+tested_takes test u x fits e =
+    let t = take_field text_law (λ read. cond (test read.0) (Ok read) (Err (place u))) u x fits e in
+    let g = guard_passed (test t.value) (place u) (t.value, t.rest) x t.gave in
+    subst (λ (y : List ℕ × Unread). Takes u.bytes (text y.0) y.1.bytes × (test y.0 ≡ true)) g.1 (t.takes, g.0)
+
+tested_again : (test : List ℕ → Bool) → ((bytes : List ℕ) → test bytes ≡ true → length bytes < 2 ^ 16)
+    → (whole : ℕ) (bytes rest : List ℕ) → test bytes ≡ true → tested_at test (left whole (text bytes ++ rest)) ≡ Ok (bytes, left whole rest)
+unfolding tested_at
+tested_again test short whole bytes rest passed = rw (text_again whole bytes rest (short bytes passed), passed) refl
+
+pub tested_law : (test : List ℕ → Bool) → ((bytes : List ℕ) → test bytes ≡ true → length bytes < 2 ^ 16) → Reads (tested_at test) text (λ bytes. test bytes ≡ true)
+tested_law test short = record { takes = tested_takes test; again = tested_again test short }
+
+pub bucket_name_law : Reads (tested_at is_bucket_name) text (λ name. is_bucket_name name ≡ true)
+bucket_name_law = tested_law is_bucket_name (λ name named. let s = (name_is name named).short in omega arith)

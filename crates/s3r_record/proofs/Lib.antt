@@ -1,0 +1,4 @@
+pub mod ReaderLaws
+pub mod FieldLaws
+pub mod CommandLaws
+pub mod Examples

@@ -1,0 +1,3 @@
+//! The first byte of a command's spelling.
+
+pub(crate) const CREATE_BUCKET: u8 = 1;

@@ -1,0 +1,19 @@
+//! The commands of a region's history, and their one spelling as bytes.
+#![tactic(auto)]
+
+mod command;
+mod decoding;
+mod encoding;
+mod fault;
+mod fields;
+mod kinds;
+mod reading;
+mod writing;
+
+pub use command::Command;
+pub use decoding::{decode, one_spelling};
+pub use encoding::encode;
+pub use fault::RecordFault;
+
+#[cfg(test)]
+mod tests;

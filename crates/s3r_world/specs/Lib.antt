@@ -1,0 +1,10 @@
+pub mod Counting
+pub mod Events
+pub mod Image
+pub mod Memory
+pub mod Moments
+pub mod Outside
+pub mod Planned
+pub mod Quiet
+pub mod Stories
+pub mod Untold
