@@ -1,11 +1,6 @@
-pub mod Answers
-pub mod Commits
-pub mod Desk
-pub mod Endings
-pub mod Head
-pub mod Input
-pub mod Requests
-pub mod Run
-pub mod Sends
-pub mod Stops
 pub mod Words
+pub mod Sends
+pub mod Passing
+pub mod Turns
+pub mod Served
+pub mod Serving

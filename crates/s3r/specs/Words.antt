@@ -1,5 +1,6 @@
 -- What the program's words mean.
-use Rattle.std.specs.Prelude.{ℕ, ◌&&◌, if◌then◌else◌, List, [], ◌∷◌, Option, Some, None, IsSomeAnd, ◌≡◌, codes, string_bytes}
+use Rattle.std.specs.Prelude.{◌≡◌, ℕ, ◌-◌, ◌&&◌, nat_lt, if◌then◌else◌, List, [], ◌∷◌, Option, Some, None, IsSomeAnd, codes, string_bytes}
+use Rattle.std.specs.Option.{option_map}
 use Rattle.std.specs.Str.{bytes_eq}
 use Rattle.s3r.specs.declared.words.Words.{Words}
 use Rattle.s3r.specs.declared.words.Place.{Place}
@@ -9,8 +10,13 @@ pub record Meaning : Type 0 where
   pub folder : List ℕ
   pub regions : ℕ
 
+-- one digit from 1 to 8
+abbrev pub regions_in : List ℕ → Option ℕ
+regions_in (digit ∷ []) = if nat_lt 48 digit && nat_lt digit 57 then Some (digit - 48) else None
+regions_in _ = None
+
 abbrev pub words_in : List (List ℕ) → Option Meaning
-words_in (folder ∷ regions ∷ task ∷ []) = if bytes_eq regions (codes "1") && bytes_eq task (codes "do") then Some (record { folder = folder; regions = 1 }) else None
+words_in (folder ∷ regions ∷ task ∷ []) = if bytes_eq task (codes "do") then option_map (λ n. record { folder = folder; regions = n }) (regions_in regions) else None
 words_in _ = None
 
 abbrev pub words_seen : Words → Meaning

@@ -1,29 +1,21 @@
-//! The replication desk as a program. So far it makes buckets in one volume: requests are taken from the input, and
-//! each is answered on the output once its command is stable.
+//! The replication desk as a program: HTTP requests are taken from the input, and each is answered on the output once
+//! its command is stable in the volume of its region.
 #![tactic(auto)]
 
-ghost use Rattle.std.specs.Prelude.{◌≡◌, ◌↔◌, ◌⊎◌, map, string_bytes, IsTrue};
+ghost use Rattle.std.specs.Prelude.{◌≡◌, ◌↔◌, map, string_bytes, IsTrue};
 ghost use Rattle.s3r_world.specs.Outside.{KeepsShape, NoneFalls, Rises};
-ghost use Rattle.s3r.specs.Run.{Ran, IsStatus};
+ghost use Rattle.s3r.specs.Served.{Ran, IsSound, StaysSound, IsStatus};
 ghost use Rattle.s3r.specs.Words.{AreMeant};
 
-mod answer;
-mod buffer;
-mod desk;
-mod ending;
-mod head;
-mod requests;
-mod run;
 mod sending;
 mod serve;
 mod stop;
 #[cfg(test)]
 mod tests;
-mod volume;
 mod words;
 
-use run::run;
 use s3r_world::{MemoryWorld, RealWorld, World};
+use serve::serve;
 use std::alloc::Global;
 use std::process::ExitCode;
 use std::rt::Env;
@@ -43,13 +35,17 @@ pub fn s3r<W: World>(alloc: Global, words: &[String], world: &mut W) -> u8
     ensures unmeant { result ≡ 2 → world.new ≡ world.old }
     ensures known { IsStatus result }
 
-    // What the requests were, what was answered, and what the volume has, by the status.
-    ensures done { IsTrue W.tells → AreMeant (map string_bytes words.now) ((W.shape world.old).volumes) → Ran result ((W.shape world.old).room 0) (W.outside world.old) (W.outside world.new) }
+    // Which requests were taken, what each came to, and what a crash at each moment may leave.
+    ensures done { IsTrue W.tells → AreMeant (map string_bytes words.now) ((W.shape world.old).volumes) →
+        Ran result (W.shape world.old).volumes (W.shape world.old).room (W.outside world.old) (W.outside world.new) (W.faults world.old) (W.faults world.new) }
+
+    // Volumes that stand for lawful histories do so after a crash at any moment.
+    ensures sound { IsTrue W.tells → AreMeant (map string_bytes words.now) ((W.shape world.old).volumes) → IsSound (W.shape world.old).volumes (W.outside world.old) →
+        StaysSound (W.shape world.old).volumes (W.outside world.old) (W.outside world.new) }
 
     // Each fault of the outside was counted.
     ensures input { result ≡ 3 → Rises 1 (W.faults world.old).input (W.faults world.new).input }
     ensures output { result ≡ 4 → Rises 1 (W.faults world.old).output (W.faults world.new).output }
-    ensures volume { result ≡ 5 → Rises 1 ((W.faults world.old).volume 0) ((W.faults world.new).volume 0) }
 
     ensures counts { NoneFalls (W.faults world.old) (W.faults world.new) }
     ensures goes { W.goes world.old world.new }
@@ -61,7 +57,10 @@ pub fn s3r<W: World>(alloc: Global, words: &[String], world: &mut W) -> u8
     if words.regions != world.volumes() {
         return NOT_MEANT;
     }
-    run(alloc, world)
+    match serve(alloc, world, words.regions) {
+        Ok(ending) => ending.status(),
+        Err(stop) => stop.status(),
+    }
 }
 
 // The words that the program was started with, without its name.

@@ -1,88 +1,163 @@
 // Requests taken from the input, answered in turn.
-ghost use Rattle.std.specs.Prelude.{◌≡◌, ◌⊎◌, ◌<◌, ◌++◌, ℕ, List, [], IsTrue, IfOk, IfErr, MatchResult};
+ghost use Rattle.std.specs.Prelude.{◌≡◌, ◌⊎◌, ◌≤◌, ◌++◌, ℕ, List, length, if◌then◌else◌, Some, None, IsTrue, IfOk, IfErr};
 ghost use Rattle.s3r_world.specs.Outside.{KeepsShape, KeepsVolumes, NoneFalls};
-ghost use Rattle.s3r_journal.specs.Step.{IsVacant};
-ghost use Rattle.s3r.specs.Commits.{CanCommit};
-ghost use Rattle.s3r.specs.Stops.{HasCause};
-ghost use Rattle.s3r.specs.Endings.{Ends};
-ghost use Rattle.s3r.specs.Run.{IsServing, Serves, Answered, StopsFull};
+ghost use Rattle.s3r_desk.specs.Events.{Events};
+ghost use Rattle.s3r_desk.specs.Keeping.{Keeps, AreNumbered, AreTied};
+ghost use Rattle.s3r.specs.Served.{HasCause, Served};
+ghost use Rattle.s3r.specs.Serving.{Says, Replies, AnswersOne, Serves, Limits};
 
-use crate::answer::Answer;
-use crate::buffer::Buffer;
-use crate::desk::Desk;
-use crate::ending::Ending;
-use crate::requests::{Reading, read_request};
 use crate::sending::emit_all;
-use crate::stop::Stop;
+use crate::stop::{Ending, Stop, stop_of};
+use s3r_api::{answer_bytes, framing_problem, is_head, problem_bytes, to_request};
+use s3r_desk::Desk;
+use s3r_http::{Buffer, RawRequest, has_more, read_request};
 use s3r_world::World;
-use std::alloc::Global;
+use std::alloc::{AllocError, Global};
 
 // So many requests are served.
 const REQUESTS: u64 = 65_536;
 
-// Takes one request, and answers it. It says where the input has no further one.
+// Puts out an answer, where there was memory for it.
+fn say<W: World>(world: &mut W, reply: Result<Vec<u8>, AllocError>) -> Result<(), Stop>
+    ensures told { IsTrue W.tells → (text : List ℕ) → IfOk reply (λ bytes. bytes.items ≡ text) → Says text result (W.outside world.old) (W.outside world.new) }
+    ensures stop { IfErr result (λ stop. (stop ≡ Stop.Output) ⊎ (stop ≡ Stop.OutOfMemory)) }
+    ensures cause { IfErr result (λ stop. HasCause stop (W.faults world.old) (W.faults world.new)) }
+    ensures counts { NoneFalls (W.faults world.old) (W.faults world.new) }
+    ensures goes { W.goes world.old world.new }
+    ensures shape { KeepsShape (W.shape world.old) (W.shape world.new) }
+{
+    let text = reply?;
+    emit_all(world, &text)?;
+    Ok(())
+}
+
+// Makes a request's step, and writes its answer.
+fn reply_to<W: World>(
+    alloc: Global,
+    world: &mut W,
+    desk: &mut Desk,
+    raw: &RawRequest,
+) -> Result<Vec<u8>, AllocError>
+    requires volumes { length desk.old.stores.items ≤ (W.shape world.old).volumes }
+    requires few { length desk.old.stores.items ≤ 8 }
+    requires numbered { AreNumbered desk.old.stores.items }
+    requires tied { IsTrue W.tells → AreTied desk.old.stores.items (W.outside world.old) }
+    requires small { length raw.now.body ≤ 4194304 }
+    ensures told { IsTrue W.tells → (before : Events) → Keeps before desk.old.stores.items (W.outside world.old) →
+        Replies (length desk.old.stores.items) (W.shape world.old).room before raw.now result desk.new.stores.items (W.outside world.old) (W.outside world.new) (W.faults world.old) (W.faults world.new) }
+    ensures count { length desk.new.stores.items ≡ length desk.old.stores.items }
+    ensures numbered { AreNumbered desk.new.stores.items }
+    ensures counts { NoneFalls (W.faults world.old) (W.faults world.new) }
+    ensures goes { W.goes world.old world.new }
+    ensures shape { KeepsShape (W.shape world.old) (W.shape world.new) }
+{
+    match to_request(alloc, raw) {
+        Ok(request) => {
+            let answer = desk.respond(alloc, world, request);
+            answer_bytes(alloc, &answer, is_head(raw), raw.last)
+        }
+        Err(problem) => problem_bytes(alloc, problem, is_head(raw), raw.last),
+    }
+}
+
+// Answers a request.
+fn answer_one<W: World>(
+    alloc: Global,
+    world: &mut W,
+    desk: &mut Desk,
+    raw: &RawRequest,
+) -> Result<(), Stop>
+    requires volumes { length desk.old.stores.items ≤ (W.shape world.old).volumes }
+    requires few { length desk.old.stores.items ≤ 8 }
+    requires numbered { AreNumbered desk.old.stores.items }
+    requires tied { IsTrue W.tells → AreTied desk.old.stores.items (W.outside world.old) }
+    requires small { length raw.now.body ≤ 4194304 }
+    ensures told { IsTrue W.tells → (before : Events) → Keeps before desk.old.stores.items (W.outside world.old) →
+        AnswersOne (length desk.old.stores.items) (W.shape world.old).room before raw.now result desk.new.stores.items (W.outside world.old) (W.outside world.new) (W.faults world.old) (W.faults world.new) }
+    ensures count { length desk.new.stores.items ≡ length desk.old.stores.items }
+    ensures numbered { AreNumbered desk.new.stores.items }
+    ensures stop { IfErr result (λ stop. (stop ≡ Stop.Output) ⊎ (stop ≡ Stop.OutOfMemory)) }
+    ensures cause { IfErr result (λ stop. HasCause stop (W.faults world.old) (W.faults world.new)) }
+    ensures counts { NoneFalls (W.faults world.old) (W.faults world.new) }
+    ensures goes { W.goes world.old world.new }
+    ensures shape { KeepsShape (W.shape world.old) (W.shape world.new) }
+{
+    let reply = reply_to(alloc, world, desk, raw);
+    say(world, reply)
+}
+
+// No further request is read behind the last one.
+fn ending_after(last: bool) -> Option<Ending>
+    ensures { result ≡ (if last then Some Ending.Over else None) }
+{
+    if last { Some(Ending::Over) } else { None }
+}
+
+// Takes one request, and answers it. It says where no further one is read.
 fn serve_one<W: World>(
     alloc: Global,
     world: &mut W,
     buffer: &mut Buffer,
     desk: &mut Desk,
 ) -> Result<Option<Ending>, Stop>
-    requires volume { 0 < (W.shape world.old).volumes }
-    requires ready { IsTrue W.tells → CanCommit desk.old.end (W.outside world.old) }
-    ensures served { IsTrue W.tells → (requests : List (List ℕ)) (input output : List ℕ) → IsServing requests input output ((W.shape world.old).room 0) desk.old buffer.old (W.outside world.old) → Serves requests input output ((W.shape world.old).room 0) result desk.new buffer.new (W.outside world.new) }
+    requires volumes { length desk.old.stores.items ≤ (W.shape world.old).volumes }
+    requires few { length desk.old.stores.items ≤ 8 }
+    requires numbered { AreNumbered desk.old.stores.items }
+    requires tied { IsTrue W.tells → AreTied desk.old.stores.items (W.outside world.old) }
+    ensures told { IsTrue W.tells → (before : Events) → Keeps before desk.old.stores.items (W.outside world.old) →
+        Serves (length desk.old.stores.items) (W.shape world.old).room before result (buffer.old ++ (W.outside world.old).input) (buffer.new ++ (W.outside world.new).input) (W.outside world.new).input
+        desk.new.stores.items (W.outside world.old) (W.outside world.new) (W.faults world.old) (W.faults world.new) }
+    ensures count { length desk.new.stores.items ≡ length desk.old.stores.items }
+    ensures numbered { AreNumbered desk.new.stores.items }
     ensures cause { IfErr result (λ stop. HasCause stop (W.faults world.old) (W.faults world.new)) }
     ensures counts { NoneFalls (W.faults world.old) (W.faults world.new) }
     ensures goes { W.goes world.old world.new }
     ensures shape { KeepsShape (W.shape world.old) (W.shape world.new) }
 {
-    match read_request(alloc, world, buffer)? {
-        Reading::Over => Ok(Some(Ending::Over)),
-        Reading::Refused => {
-            emit_all(world, Answer::NoRequest.text())?;
-            Ok(Some(Ending::Refused))
+    match read_request(alloc, world, buffer) {
+        Ok(None) => Ok(Some(Ending::Over)),
+        Ok(Some(raw)) => {
+            answer_one(alloc, world, desk, &raw)?;
+            Ok(ending_after(raw.last))
         }
-        Reading::Request(name) => {
-            let answer = desk.make_bucket(alloc, world, &name)?;
-            emit_all(world, answer.text())?;
-            Ok(None)
-        }
+        Err(fault) => match framing_problem(fault) {
+            Some(problem) => {
+                say(world, problem_bytes(alloc, problem, false, true))?;
+                Ok(Some(Ending::Refused))
+            }
+            None => Err(stop_of(fault)),
+        },
     }
 }
 
 // Whether the input goes on behind the last request.
 fn ending_behind<W: World>(world: &mut W, buffer: &mut Buffer) -> Result<Ending, Stop>
-    ensures told { IsTrue W.tells → IfOk result (λ ending. Ends ending 65536 (buffer.old ++ (W.outside world.old).input)) }
+    ensures told { IsTrue W.tells → Limits result (buffer.old ++ (W.outside world.old).input) (W.outside world.new).input }
     ensures volumes { IsTrue W.tells → KeepsVolumes (W.outside world.old) (W.outside world.new) }
-    ensures stop { IfErr result (λ stop. (stop ≡ Stop.Input) ⊎ (stop ≡ Stop.OutOfMemory)) }
     ensures cause { IfErr result (λ stop. HasCause stop (W.faults world.old) (W.faults world.new)) }
     ensures counts { NoneFalls (W.faults world.old) (W.faults world.new) }
     ensures goes { W.goes world.old world.new }
     ensures shape { KeepsShape (W.shape world.old) (W.shape world.new) }
 {
-    if buffer.len() > 0 {
-        return Ok(Ending::Limit);
-    }
-    if buffer.fill(world)? {
-        Ok(Ending::Limit)
-    } else {
-        Ok(Ending::Over)
+    match has_more(world, buffer) {
+        Ok(true) => Ok(Ending::Limit),
+        Ok(false) => Ok(Ending::Over),
+        Err(fault) => Err(stop_of(fault)),
     }
 }
 
-/// Serves the requests of the input over an empty volume.
-pub fn serve<W: World>(alloc: Global, world: &mut W) -> Result<Ending, Stop>
-    requires volume { 0 < (W.shape world.old).volumes }
-    requires vacant { IsTrue W.tells → IsVacant 0 (W.outside world.old) }
-    ensures served { IsTrue W.tells → MatchResult result
-        (λ ending. Answered ending (W.outside world.old).input (W.outside world.old).as_read.output ((W.shape world.old).room 0) (W.outside world.new))
-        (λ stop. stop ≡ Stop.Full → StopsFull (W.outside world.old).input ((W.shape world.old).room 0)) }
+/// Serves the requests of the input.
+pub fn serve<W: World>(alloc: Global, world: &mut W, regions: u32) -> Result<Ending, Stop>
+    requires volumes { regions ≡ (W.shape world.old).volumes }
+    requires few { regions ≤ 8 }
+    ensures served { IsTrue W.tells → Served regions (W.shape world.old).room result (W.outside world.old) (W.outside world.new) (W.faults world.old) (W.faults world.new) }
     ensures cause { IfErr result (λ stop. HasCause stop (W.faults world.old) (W.faults world.new)) }
     ensures counts { NoneFalls (W.faults world.old) (W.faults world.new) }
     ensures goes { W.goes world.old world.new }
     ensures shape { KeepsShape (W.shape world.old) (W.shape world.new) }
 {
     let mut buffer = Buffer::new(alloc);
-    let mut desk = Desk::new(alloc);
+    let mut desk = Desk::new(alloc, regions)?;
     for _ in 0..REQUESTS {
         if let Some(ending) = serve_one(alloc, world, &mut buffer, &mut desk)? {
             return Ok(ending);

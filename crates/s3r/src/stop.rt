@@ -1,51 +1,66 @@
-// What ends the work early.
+// How a run ends.
 ghost use Rattle.std.specs.Prelude.{◌≡◌};
-ghost use Rattle.s3r.specs.Stops.{status_of};
+ghost use Rattle.s3r.specs.Served.{status_of_ending, status_of_stop, stop_of};
 
-use crate::buffer::ReadFault;
-use s3r_journal::AppendFault;
-use s3r_world::{OutputFault, VolumeFault};
-use std::alloc::{AllocError, AllocFailed};
+use s3r_http::HttpFault;
+use s3r_world::OutputFault;
+use std::alloc::AllocError;
 
+/// How the input ends.
+#[derive(Clone, Copy, Debug, PartialEq, Eq)]
+pub enum Ending {
+    /// Behind a whole request, or behind one that is its connection's last.
+    Over,
+    /// With bytes that begin no request.
+    Refused,
+    /// It goes on behind the last request that is served.
+    Limit,
+}
+
+impl Ending {
+    /// The status that the program ends with.
+    pub fn status(self) -> u8
+        ensures { result ≡ status_of_ending self }
+    {
+        match self {
+            Ending::Over => 0,
+            Ending::Refused => 1,
+            Ending::Limit => 10,
+        }
+    }
+}
+
+/// What ends the work early.
 #[derive(Clone, Copy, Debug, PartialEq, Eq)]
 pub enum Stop {
     /// The input failed.
     Input,
     /// The output failed.
     Output,
-    /// The volume failed, so the last command is in doubt.
-    Volume,
     /// There was no memory.
     OutOfMemory,
-    /// The next command would pass the volume's room.
-    Full,
 }
 
 impl Stop {
     /// The status that the program ends with.
     pub fn status(self) -> u8
-        ensures { result ≡ status_of self }
+        ensures { result ≡ status_of_stop self }
     {
         match self {
             Stop::Input => 3,
             Stop::Output => 4,
-            Stop::Volume => 5,
             Stop::OutOfMemory => 6,
-            Stop::Full => 12,
         }
     }
 }
 
-impl From<ReadFault> for Stop {
-    ghost use Rattle.s3r.specs.Stops.{stop_of_read};
-
-    ghost from_gives = { λ fault stop. stop ≡ stop_of_read fault };
-
-    fn from(fault: ReadFault) -> Self {
-        match fault {
-            ReadFault::Input => Stop::Input,
-            ReadFault::OutOfMemory => Stop::OutOfMemory,
-        }
+/// Why nothing is read on, where nothing is wrong with the bytes.
+pub fn stop_of(fault: HttpFault) -> Stop
+    ensures { result ≡ stop_of fault }
+{
+    match fault {
+        HttpFault::Input => Stop::Input,
+        _ => Stop::OutOfMemory,
     }
 }
 
@@ -59,45 +74,12 @@ impl From<OutputFault> for Stop {
     }
 }
 
-impl From<VolumeFault> for Stop {
-    ghost use Rattle.s3r.specs.declared.stop.Stop.TheVariants.{Volume};
-
-    ghost from_gives = { λ _ stop. stop ≡ Volume };
-
-    fn from(_: VolumeFault) -> Self {
-        Stop::Volume
-    }
-}
-
-impl From<AppendFault> for Stop {
-    ghost use Rattle.s3r.specs.Stops.{stop_of_append};
-
-    ghost from_gives = { λ fault stop. stop ≡ stop_of_append fault };
-
-    fn from(fault: AppendFault) -> Self {
-        match fault {
-            AppendFault::Volume(_) => Stop::Volume,
-            AppendFault::VolumeFull(_) => Stop::Full,
-        }
-    }
-}
-
 impl From<AllocError> for Stop {
     ghost use Rattle.s3r.specs.declared.stop.Stop.TheVariants.{OutOfMemory};
 
     ghost from_gives = { λ _ stop. stop ≡ OutOfMemory };
 
     fn from(_: AllocError) -> Self {
-        Stop::OutOfMemory
-    }
-}
-
-impl<T: Drop> From<AllocFailed<T>> for Stop {
-    ghost use Rattle.s3r.specs.declared.stop.Stop.TheVariants.{OutOfMemory};
-
-    ghost from_gives = { λ _ stop. stop ≡ OutOfMemory };
-
-    fn from(_: AllocFailed<T>) -> Self {
         Stop::OutOfMemory
     }
 }

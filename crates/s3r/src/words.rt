@@ -1,7 +1,7 @@
 // The words that the program is started with, without its name.
 ghost use Rattle.std.specs.Prelude.{◌≡◌, map, string_bytes, IfOk};
 ghost use Rattle.std.specs.Option.{option_map};
-ghost use Rattle.s3r.specs.Words.{words_seen, place_seen, words_in};
+ghost use Rattle.s3r.specs.Words.{regions_in, words_seen, place_seen, words_in};
 
 use std::alloc::{AllocError, Global};
 
@@ -20,21 +20,35 @@ pub struct Place {
     pub port: Option<u16>,
 }
 
-/// `FOLDER 1 do`, and nothing else so far.
+// One digit from 1 to 8.
+fn regions_in(word: &[u8]) -> Option<u32>
+    ensures { result ≡ regions_in word.now }
+{
+    let [digit] = word else {
+        return None;
+    };
+    if *digit > b'0' && *digit < b'9' {
+        Some(u32::from(*digit - b'0'))
+    } else {
+        None
+    }
+}
+
+/// `FOLDER REGIONS do`, and nothing else so far.
 pub fn read_words(words: &[String]) -> Option<Words<'_>>
     ensures { option_map words_seen result ≡ words_in (map string_bytes words.now) }
 {
     let [folder, regions, task] = words else {
         return None;
     };
-    if regions.as_str() == "1" && task.as_str() == "do" {
-        Some(Words {
-            folder: folder.as_str(),
-            regions: 1,
-        })
-    } else {
-        None
+    if task.as_str() != "do" {
+        return None;
     }
+    let regions = regions_in(regions.as_bytes())?;
+    Some(Words {
+        folder: folder.as_str(),
+        regions,
+    })
 }
 
 /// The place that the words name. None exactly where they aren't words of the program.

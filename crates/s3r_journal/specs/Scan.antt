@@ -1,5 +1,5 @@
 -- What a scan finds in the bytes of a volume.
-use Rattle.std.specs.Prelude.{◌≡◌, ◌⊎◌, ◌==◌, ℕ, ◌+◌, Bool, not, ◌&&◌, ◌||◌, if◌then◌else◌, nat_le, nat_lt, List, [], ◌∷◌, ◌++◌, length, take, drop, slice_index, Result, Ok, Err, IfOk}
+use Rattle.std.specs.Prelude.{◌≡◌, ◌⊎◌, ◌==◌, ℕ, ◌+◌, Bool, not, ◌&&◌, ◌||◌, if◌then◌else◌, nat_le, nat_lt, ◌≤◌, List, [], ◌∷◌, ◌++◌, length, take, drop, slice_index, Result, Ok, Err, IfOk}
 use Rattle.std.specs.Int.{from_be_bytes, w32}
 use Rattle.std.specs.Str.{bytes_eq}
 use Rattle.s3r_world.specs.Outside.{Outside, Looks, IsStable, Counts, Rises}
@@ -83,3 +83,9 @@ HasCause v OutOfMemory old new = Unit {0}
 abbrev pub ScansTo : ℕ → List (List ℕ) → ℕ → ℕ → List ℕ → Type 0
 ScansTo region [] end from bytes = finding region from bytes ≡ end_at end
 ScansTo region (s ∷ ss) end from bytes = (finding region from bytes ≡ one_record s (from + 5 + length s)) × ScansTo region ss end (from + 5 + length s) bytes
+
+-- the history ends at this place, or the next place is behind the record
+abbrev pub GoesOn : ℕ → Scanned → Type 0
+GoesOn from Empty = Unit {0}
+GoesOn from (End at) = at ≡ from
+GoesOn from (Record bytes next) = (next ≡ from + 5 + length bytes.items) × (length bytes.items ≤ 16777216)

@@ -2,7 +2,7 @@
 ghost use Rattle.std.specs.Prelude.{◌≡◌, ◌≤◌, ◌<◌, IsTrue, length, drop, IfOk, IfErr, vec_len};
 ghost use Rattle.std.specs.Int.{to_be_bytes, w32};
 ghost use Rattle.s3r_world.specs.Outside.{KeepsShape, VolumeCause, NoneFalls, Looks};
-ghost use Rattle.s3r_journal.specs.Scan.{Scans, HasCause};
+ghost use Rattle.s3r_journal.specs.Scan.{Scans, GoesOn, HasCause};
 ghost use Rattle.s3r_journal.specs.Pieces.{IsHeader, IsHead, IsBody, IsThere};
 
 use s3r_world::{VolumeFault, World};
@@ -133,6 +133,7 @@ fn body_at<W: World>(
     length: u32,
 ) -> Result<Scanned, ScanFault>
     requires { v < (W.shape world.old).volumes }
+    ensures next { IfOk result (GoesOn at) }
     ensures body { IsTrue W.tells → IsBody at length (drop at ((W.outside world.old).as_read.volume v)) result }
     ensures told { IsTrue W.tells → Looks (W.outside world.old) (W.outside world.new) }
     ensures fault { IfErr result (λ e. HasCause v e (W.faults world.old) (W.faults world.new)) }
@@ -159,6 +160,7 @@ fn body_at<W: World>(
 // The record at a place, or the end.
 fn record_at<W: World>(world: &mut W, alloc: Global, v: u32, at: u64) -> Result<Scanned, ScanFault>
     requires { v < (W.shape world.old).volumes }
+    ensures next { IfOk result (GoesOn at) }
     ensures found { IsTrue W.tells → IsThere at (drop at ((W.outside world.old).as_read.volume v)) result }
     ensures told { IsTrue W.tells → Looks (W.outside world.old) (W.outside world.new) }
     ensures fault { IfErr result (λ e. HasCause v e (W.faults world.old) (W.faults world.new)) }
@@ -184,6 +186,7 @@ pub fn scan<W: World>(
 ) -> Result<Scanned, ScanFault>
     requires volume { v < (W.shape world.old).volumes }
     requires region { region ≤ 7 }
+    ensures next { IfOk result (GoesOn from) }
     ensures told { IsTrue W.tells → Scans v region from result (W.outside world.old) (W.outside world.new) }
     ensures fault { IfErr result (λ e. HasCause v e (W.faults world.old) (W.faults world.new)) }
     ensures counts { NoneFalls (W.faults world.old) (W.faults world.new) }

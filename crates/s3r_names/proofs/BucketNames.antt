@@ -1,19 +1,15 @@
 -- What is known of the bytes of a bucket's name.
-use Rattle.std.proofs.Common.{◌≡◌, ℕ, ◌<◌, ◌≤◌, suc, zero, true, not, nat_le, ◌&&◌, List, [], ◌∷◌, length, arith}
+use Rattle.std.proofs.Common.{◌≡◌, ℕ, ◌<◌, ◌≤◌, true, not, nat_le, ◌&&◌, List, length, arith}
 use Rattle.std.specs.List.{list_all}
 use Rattle.std.specs.Str.{IsAscii, IsUtf8}
 use Rattle.std.proofs.lemmas.Bool.{and_parts}
 use Rattle.std.proofs.lemmas.Bool.Decides.{nat_tests}
 use Rattle.std.proofs.lemmas.Str.{IsUtf8-from_ascii}
+use Rattle.s3r_names.proofs.Ascii.{ascii_from_all}
 use Rattle.s3r_names.specs.Bucket.{is_name_byte, has_name_length, has_name_ends, has_adjacent_dots, is_address, is_reserved, is_bucket_name}
 
 name_byte-ascii : (byte : ℕ) → is_name_byte byte ≡ true → byte < 128
 name_byte-ascii byte h = grind (arith, nat_tests)
-
-bytes-ascii : (bytes : List ℕ) → list_all is_name_byte bytes ≡ true → IsAscii bytes
-bytes-ascii [] h i = omega arith
-bytes-ascii (b ∷ bs) h zero = name_byte-ascii b (and_parts (is_name_byte b) (list_all is_name_byte bs) h).0
-bytes-ascii (b ∷ bs) h (suc i) = bytes-ascii bs (and_parts (is_name_byte b) (list_all is_name_byte bs) h).1 i
 
 length_fits : (n : ℕ) → (nat_le 3 n && nat_le n 63) ≡ true → n ≤ 63
 length_fits n h = grind (arith, nat_tests)
@@ -30,7 +26,7 @@ name_is bytes h =
     let c = and_parts (has_name_length bytes && list_all is_name_byte bytes && has_name_ends bytes) (not (has_adjacent_dots bytes)) b.0 in
     let d = and_parts (has_name_length bytes && list_all is_name_byte bytes) (has_name_ends bytes) c.0 in
     let e = and_parts (has_name_length bytes) (list_all is_name_byte bytes) d.0 in
-    record { short = length_fits (length bytes) e.0; ascii = bytes-ascii bytes e.1 }
+    record { short = length_fits (length bytes) e.0; ascii = ascii_from_all is_name_byte name_byte-ascii bytes e.1 }
 
 pub name-utf8 : (bytes : List ℕ) → is_bucket_name bytes ≡ true → IsUtf8 bytes
 name-utf8 bytes h = IsUtf8-from_ascii bytes (name_is bytes h).ascii

@@ -9,6 +9,14 @@ use thiserror::Error;
 pub enum NameFault {
     #[error("not a bucket's name")]
     InvalidBucketName,
+    #[error("the key is longer than 1024 bytes")]
+    KeyTooLong,
+    #[error("not a key")]
+    InvalidKey,
+    #[error("not a storage class")]
+    InvalidStorageClass,
+    #[error("not a tag")]
+    InvalidTag,
     #[error("out of memory")]
     OutOfMemory,
 }

@@ -3,12 +3,24 @@
 
 mod bucket;
 mod bucket_rule;
+mod class;
 mod fault;
+mod key;
+mod stamp;
+mod tag_rule;
+mod tags;
 mod texts;
+mod version;
 
 pub use bucket::BucketName;
+pub use class::ClassName;
 pub use fault::NameFault;
+pub use key::Key;
+pub use stamp::{Stamp, is_before};
+pub use tag_rule::is_key_below;
+pub use tags::{Tag, TagSet};
 pub use texts::{Bytes, Text};
+pub use version::VersionId;
 
 #[cfg(test)]
 mod tests;

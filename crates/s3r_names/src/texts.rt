@@ -48,6 +48,12 @@ impl Text {
     {
         self.inner.as_str()
     }
+
+    pub fn as_bytes(&self) -> &[u8]
+        ensures { result.now ≡ self.now }
+    {
+        self.inner.as_str().as_bytes()
+    }
 }
 
 impl Clone for Text {

@@ -1,14 +1,19 @@
 -- The laws of each field.
-use Rattle.std.proofs.Common.{◌≡◌, ℕ, zero, suc, ◌^◌, ◌<◌, ◌≤◌, Bool, true, false, cond, ltb, List, [], ◌∷◌, ◌++◌, length, take, drop, Ok, Err, refl, sym, subst, arith}
-use Rattle.std.specs.Int.{Width, w16, byte_len, from_be_bytes, to_be_bytes}
+use Rattle.std.proofs.Common.{◌≡◌, ℕ, zero, suc, ◌^◌, ◌<◌, ◌≤◌, Bool, true, false, cond, ltb, List, [], ◌∷◌, ◌++◌, length, take, drop, Ok, Err, refl, sym, ap, subst, ◌∙◌, append_assoc, arith}
+use Rattle.std.specs.Int.{Width, w16, w32, byte_len, from_be_bytes, to_be_bytes}
 use Rattle.std.proofs.lemmas.Bool.{ltb-false, le-ltb}
+use Rattle.std.proofs.lemmas.Bool.Decides.{nat_tests}
 use Rattle.std.proofs.lemmas.List.{take_at, drop_at, take-append-drop, length-append, length-take}
-use Rattle.std.proofs.lemmas.Nat.{be_bytes_2, from_be_bytes-to_be_bytes_2}
+use Rattle.std.proofs.lemmas.Nat.{be_bytes_2, be_bytes_4, from_be_bytes-to_be_bytes_2, from_be_bytes-to_be_bytes_4}
 use Rattle.s3r_names.specs.Bucket.{is_bucket_name}
+use Rattle.s3r_names.specs.Key.{is_key}
+use Rattle.s3r_names.specs.Class.{is_class_name}
 use Rattle.s3r_names.proofs.BucketNames.{name_is}
-use Rattle.s3r_record.specs.Fields.{text, flag}
-use Rattle.s3r_record.specs.Reading.{Unread, place, past, number_at, flag_at, text_at, tested_at}
-use Rattle.s3r_record.proofs.ReaderLaws.{IsBytes, IsBytes-drop, IsBytes-take, IsBytes-rest, guard_passed, guard_missed, ok_is, Takes, Takes-then, left, Reads, take_field}
+use Rattle.s3r_names.proofs.Keys.{key_is}
+use Rattle.s3r_names.proofs.ClassNames.{class_is}
+use Rattle.s3r_record.specs.Fields.{sized, text, body, flag}
+use Rattle.s3r_record.specs.Reading.{Unread, place, past, number_at, flag_at, sized_at, tested_at, is_body}
+use Rattle.s3r_record.proofs.ReaderLaws.{IsBytes, IsBytes-drop, IsBytes-take, IsBytes-rest, bind_ok, guard_passed, guard_missed, ok_is, Takes, Takes-then, left, Reads, take_field}
 
 -- ---- numbers
 
@@ -24,6 +29,14 @@ wide16 = record {
   back = λ bytes len fits. be_bytes_2 bytes _ len fits refl;
   again = λ n lt. from_be_bytes-to_be_bytes_2 n lt;
   below = λ bytes fits. omega (arith, fits 0, fits 1);
+}
+
+pub wide32 : IsWide w32 (2 ^ 32)
+wide32 = record {
+  len = λ n. refl;
+  back = λ bytes len fits. be_bytes_4 bytes _ len fits refl;
+  again = λ n lt. from_be_bytes-to_be_bytes_4 n lt;
+  below = λ bytes fits. omega (arith, fits 0, fits 1, fits 2, fits 3);
 }
 
 number_takes : (w : Width) (limit : ℕ) (wide : IsWide w limit) (u : Unread) (x : ℕ × Unread) → IsBytes u.bytes → number_at w u ≡ Ok x → Takes u.bytes (to_be_bytes w x.0) x.1.bytes × (x.0 < limit)
@@ -62,45 +75,75 @@ flag_again whole false rest h = refl
 pub flag_law : Reads flag_at flag (λ _. Unit {0})
 flag_law = record { takes = λ u x fits e. flag_takes u.whole u.bytes x fits e; again = flag_again }
 
--- ---- texts
+-- ---- a length, and that many bytes
 
-text_takes : (u : Unread) (x : List ℕ × Unread) → IsBytes u.bytes → text_at u ≡ Ok x → Takes u.bytes (text x.0) x.1.bytes × (length x.0 < 2 ^ 16)
-unfolding text_at
-text_takes u x fits e =
-    let n = take_field (number_law w16 (2 ^ 16) wide16) (λ len. cond (ltb (length len.1.bytes) len.0) (Err (place u)) (Ok (take len.0 len.1.bytes, past len.0 len.1))) u x fits e in
+sized_takes : (w : Width) (limit : ℕ) → IsWide w limit → (u : Unread) (x : List ℕ × Unread) → IsBytes u.bytes → sized_at w u ≡ Ok x → Takes u.bytes (sized w x.0) x.1.bytes × (length x.0 < limit)
+unfolding sized_at
+sized_takes w limit wide u x fits e =
+    let n = take_field (number_law w limit wide) (λ len. cond (ltb (length len.1.bytes) len.0) (Err (place u)) (Ok (take len.0 len.1.bytes, past len.0 len.1))) u x fits e in
     let g = guard_missed (ltb (length n.rest.bytes) n.value) (place u) (take n.value n.rest.bytes, past n.value n.rest) x n.gave in
     let long : n.value ≤ length n.rest.bytes = ltb-false _ _ g.0 in
     let len : length (take n.value n.rest.bytes) ≡ n.value = omega (arith, length-take n.value n.rest.bytes) in
     let second : Takes n.rest.bytes (take n.value n.rest.bytes) (drop n.value n.rest.bytes) = record { parts = sym (take-append-drop n.value n.rest.bytes); rest_fits = IsBytes-drop n.value n.rest.bytes n.takes.rest_fits } in
-    let both = Takes-then u.bytes (to_be_bytes w16 n.value) n.rest.bytes (take n.value n.rest.bytes) (drop n.value n.rest.bytes) n.takes second in
-    let whole : Takes u.bytes (text (take n.value n.rest.bytes)) (drop n.value n.rest.bytes) = subst (λ (k : ℕ). Takes u.bytes (to_be_bytes w16 k ++ take n.value n.rest.bytes) (drop n.value n.rest.bytes)) (sym len) both in
-    subst (λ (p : List ℕ × Unread). Takes u.bytes (text p.0) p.1.bytes × (length p.0 < 2 ^ 16)) g.1 (whole, omega (arith, n.fits))
+    let both = Takes-then u.bytes (to_be_bytes w n.value) n.rest.bytes (take n.value n.rest.bytes) (drop n.value n.rest.bytes) n.takes second in
+    let whole : Takes u.bytes (sized w (take n.value n.rest.bytes)) (drop n.value n.rest.bytes) = subst (λ (k : ℕ). Takes u.bytes (to_be_bytes w k ++ take n.value n.rest.bytes) (drop n.value n.rest.bytes)) (sym len) both in
+    subst (λ (p : List ℕ × Unread). Takes u.bytes (sized w p.0) p.1.bytes × (length p.0 < limit)) g.1 (whole, omega (arith, n.fits))
 
-text_again : (whole : ℕ) (bytes rest : List ℕ) → length bytes < 2 ^ 16 → text_at (left whole (text bytes ++ rest)) ≡ Ok (bytes, left whole rest)
-unfolding text_at
-text_again whole bytes rest lt =
+sized_again : (w : Width) (limit : ℕ) → IsWide w limit → (whole : ℕ) (bytes rest : List ℕ) → length bytes < limit → sized_at w (left whole (sized w bytes ++ rest)) ≡ Ok (bytes, left whole rest)
+unfolding sized_at
+sized_again w limit wide whole bytes rest lt =
     let long : ltb (length (bytes ++ rest)) (length bytes) ≡ false = le-ltb _ _ (omega (arith, length-append bytes rest)) in
-    rw (number_again w16 (2 ^ 16) wide16 whole (length bytes) (bytes ++ rest) lt, long, take_at bytes rest (length bytes) refl, drop_at bytes rest (length bytes) refl) refl
+    ap (λ (all : List ℕ). sized_at w (left whole all)) (append_assoc (to_be_bytes w (length bytes)) bytes rest)
+    ∙ rw (number_again w limit wide whole (length bytes) (bytes ++ rest) lt, long, take_at bytes rest (length bytes) refl, drop_at bytes rest (length bytes) refl) refl
 
-pub text_law : Reads text_at text (λ bytes. length bytes < 2 ^ 16)
-text_law = record { takes = text_takes; again = text_again }
+pub sized_law : (w : Width) (limit : ℕ) → IsWide w limit → Reads (sized_at w) (sized w) (λ bytes. length bytes < limit)
+sized_law w limit wide = record { takes = sized_takes w limit wide; again = sized_again w limit wide }
 
--- ---- texts that pass a test
+-- ---- such bytes that pass a test
 
-tested_takes : (test : List ℕ → Bool) (u : Unread) (x : List ℕ × Unread) → IsBytes u.bytes → tested_at test u ≡ Ok x → Takes u.bytes (text x.0) x.1.bytes × (test x.0 ≡ true)
+-- the test of a field takes no more bytes than the width of its length counts
+abbrev pub IsShortTest : (List ℕ → Bool) → ℕ → Type 0
+IsShortTest test limit = (bytes : List ℕ) → test bytes ≡ true → length bytes < limit
+
+pub tested_passes : (w : Width) (test : List ℕ → Bool) (u : Unread) (x : List ℕ × Unread) → tested_at w test u ≡ Ok x → test x.0 ≡ true
 unfolding tested_at
-tested_takes test u x fits e =
-    let t = take_field text_law (λ read. cond (test read.0) (Ok read) (Err (place u))) u x fits e in
+tested_passes w test u x e =
+    let read = bind_ok (sized_at w u) (λ read. cond (test read.0) (Ok read) (Err (place u))) x e in
+    let g = guard_passed (test read.0.0) (place u) read.0 x read.2 in
+    subst (λ (y : List ℕ × Unread). test y.0 ≡ true) g.1 g.0
+
+tested_takes : (w : Width) (limit : ℕ) → IsWide w limit → (test : List ℕ → Bool) (u : Unread) (x : List ℕ × Unread) → IsBytes u.bytes → tested_at w test u ≡ Ok x → Takes u.bytes (sized w x.0) x.1.bytes × (test x.0 ≡ true)
+unfolding tested_at
+tested_takes w limit wide test u x fits e =
+    let t = take_field (sized_law w limit wide) (λ read. cond (test read.0) (Ok read) (Err (place u))) u x fits e in
     let g = guard_passed (test t.value) (place u) (t.value, t.rest) x t.gave in
-    subst (λ (y : List ℕ × Unread). Takes u.bytes (text y.0) y.1.bytes × (test y.0 ≡ true)) g.1 (t.takes, g.0)
+    subst (λ (y : List ℕ × Unread). Takes u.bytes (sized w y.0) y.1.bytes × (test y.0 ≡ true)) g.1 (t.takes, g.0)
 
-tested_again : (test : List ℕ → Bool) → ((bytes : List ℕ) → test bytes ≡ true → length bytes < 2 ^ 16)
-    → (whole : ℕ) (bytes rest : List ℕ) → test bytes ≡ true → tested_at test (left whole (text bytes ++ rest)) ≡ Ok (bytes, left whole rest)
+tested_again : (w : Width) (limit : ℕ) → IsWide w limit → (test : List ℕ → Bool) → IsShortTest test limit
+    → (whole : ℕ) (bytes rest : List ℕ) → test bytes ≡ true → tested_at w test (left whole (sized w bytes ++ rest)) ≡ Ok (bytes, left whole rest)
 unfolding tested_at
-tested_again test short whole bytes rest passed = rw (text_again whole bytes rest (short bytes passed), passed) refl
+tested_again w limit wide test short whole bytes rest passed = rw (sized_again w limit wide whole bytes rest (short bytes passed), passed) refl
 
-pub tested_law : (test : List ℕ → Bool) → ((bytes : List ℕ) → test bytes ≡ true → length bytes < 2 ^ 16) → Reads (tested_at test) text (λ bytes. test bytes ≡ true)
-tested_law test short = record { takes = tested_takes test; again = tested_again test short }
+pub tested_law : (w : Width) (limit : ℕ) → IsWide w limit → (test : List ℕ → Bool) → IsShortTest test limit → Reads (tested_at w test) (sized w) (λ bytes. test bytes ≡ true)
+tested_law w limit wide test short = record { takes = tested_takes w limit wide test; again = tested_again w limit wide test short }
 
-pub bucket_name_law : Reads (tested_at is_bucket_name) text (λ name. is_bucket_name name ≡ true)
-bucket_name_law = tested_law is_bucket_name (λ name named. let s = (name_is name named).short in omega arith)
+pub text_law : (test : List ℕ → Bool) → IsShortTest test (2 ^ 16) → Reads (tested_at w16 test) text (λ bytes. test bytes ≡ true)
+text_law test short = tested_law w16 (2 ^ 16) wide16 test short
+
+pub bucket_name_law : Reads (tested_at w16 is_bucket_name) text (λ name. is_bucket_name name ≡ true)
+bucket_name_law = text_law is_bucket_name (λ name named. let s = (name_is name named).short in omega arith)
+
+pub key_law : Reads (tested_at w16 is_key) text (λ key. is_key key ≡ true)
+key_law = text_law is_key (λ key named. let s = (key_is key named).short in omega arith)
+
+pub class_law : Reads (tested_at w16 is_class_name) text (λ class. is_class_name class ≡ true)
+class_law = text_law is_class_name (λ class named. let s = (class_is class named).short in omega arith)
+
+pub body_is : (bytes : List ℕ) → is_body bytes ≡ true → length bytes ≤ 4194304
+body_is bytes h = grind (arith, nat_tests)
+
+pub body_passes : (bytes : List ℕ) → length bytes ≤ 4194304 → is_body bytes ≡ true
+body_passes bytes h = grind (arith, nat_tests)
+
+pub body_law : Reads (tested_at w32 is_body) body (λ bytes. is_body bytes ≡ true)
+body_law = tested_law w32 (2 ^ 32) wide32 is_body (λ bytes short. let s = body_is bytes short in omega arith)

@@ -1,5 +1,5 @@
 -- What a reader takes is the spelling of what it gives, and a spelling is read again, whatever follows it.
-use Rattle.std.proofs.Common.{◌≡◌, ℕ, ◌+◌, ◌<◌, suc, Bool, true, false, cond, List, ◌∷◌, ◌++◌, get_or, take, drop, Result, Ok, Err, refl, sym, ap, ◌∙◌, append_assoc, arith, inl, inr}
+use Rattle.std.proofs.Common.{◌≡◌, ℕ, ◌+◌, ◌<◌, suc, Bool, true, false, cond, List, ◌∷◌, ◌++◌, get_or, take, drop, Result, Ok, Err, refl, sym, ap, ◌∙◌, append_assoc, arith, ◌⊎◌, inl, inr}
 use Rattle.std.proofs.lemmas.Bool.{cases_lt}
 use Rattle.std.proofs.lemmas.List.{length-take, get_or-drop, get_or-take, get_or_past}
 use Rattle.s3r_record.specs.Reading.{◌>>=◌, Unread}
@@ -35,9 +35,9 @@ guard_missed true d x y e = absurd cc
 guard_missed false d x y e = (refl, cc)
 
 -- which way a choice went
-pub chosen : {A : Type 0} (b : Bool) (r : Result A ℕ) (d : ℕ) (y : A) → cond b r (Err d) ≡ Ok y → (b ≡ true) × (r ≡ Ok y)
-chosen true r d y e = (refl, e)
-chosen false r d y e = absurd cc
+pub chosen : {A : Type 0} (b : Bool) (r s : Result A ℕ) (y : A) → cond b r s ≡ Ok y → ((b ≡ true) × (r ≡ Ok y)) ⊎ (s ≡ Ok y)
+chosen true r s y e = inl (refl, e)
+chosen false r s y e = inr e
 
 abbrev done : {A : Type 0} → A → Result A ℕ
 done x = Ok x
@@ -52,6 +52,9 @@ pub record Takes (bytes text rest : List ℕ) : Type 0 where
 
 pub Takes-then : (a x b y c : List ℕ) → Takes a x b → Takes b y c → Takes a (x ++ y) c
 Takes-then a x b y c p q = record { parts = p.parts ∙ ap (λ (t : List ℕ). x ++ t) q.parts ∙ sym (append_assoc x y c); rest_fits = q.rest_fits }
+
+pub Takes-behind : (byte : ℕ) (bytes text rest : List ℕ) → Takes bytes text rest → Takes (byte ∷ bytes) (byte ∷ text) rest
+Takes-behind byte bytes text rest taken = record { parts = ap (λ (all : List ℕ). byte ∷ all) taken.parts; rest_fits = taken.rest_fits }
 
 abbrev pub left : ℕ → List ℕ → Unread
 left whole bytes = record { whole = whole; bytes = bytes }

@@ -1,11 +1,27 @@
 -- The one spelling of each field.
 use Rattle.std.specs.Prelude.{ℕ, Bool, true, false, List, [], ◌∷◌, ◌++◌, length}
-use Rattle.std.specs.Int.{w16, to_be_bytes}
+use Rattle.std.specs.Int.{Width, w16, w32, to_be_bytes}
+use Rattle.std.specs.List.{flat_map}
+use Rattle.s3r_names.specs.declared.tags.Tag.{Tag}
 
--- two bytes of length, and that many bytes
+-- a length of that width, and that many bytes
+abbrev pub sized : Width → List ℕ → List ℕ
+sized w bytes = to_be_bytes w (length bytes) ++ bytes
+
 abbrev pub text : List ℕ → List ℕ
-text bytes = to_be_bytes w16 (length bytes) ++ bytes
+text bytes = sized w16 bytes
+
+abbrev pub body : List ℕ → List ℕ
+body bytes = sized w32 bytes
 
 abbrev pub flag : Bool → List ℕ
 flag true = 1 ∷ []
 flag false = 0 ∷ []
+
+-- a key and a value
+abbrev pub tag_bytes : Tag → List ℕ
+tag_bytes t = text t.key ++ text t.value
+
+-- a byte of count, and each tag
+abbrev pub tags_bytes : List Tag → List ℕ
+tags_bytes ts = length ts ∷ flat_map tag_bytes ts

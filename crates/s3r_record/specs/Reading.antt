@@ -1,6 +1,6 @@
 -- Reading fields from left to right. The fault is the place of the first field that is wrong.
-use Rattle.std.specs.Prelude.{◌≡◌, ℕ, zero, suc, ◌-◌, Bool, true, false, List, [], ◌∷◌, length, take, drop, Result, Ok, Err, nat_lt, if◌then◌else◌}
-use Rattle.std.specs.Int.{Width, w16, byte_len, from_be_bytes}
+use Rattle.std.specs.Prelude.{◌≡◌, ℕ, zero, suc, ◌-◌, Bool, true, false, List, [], ◌∷◌, length, take, drop, Result, Ok, Err, nat_lt, nat_le, if◌then◌else◌}
+use Rattle.std.specs.Int.{Width, byte_len, from_be_bytes}
 use Rattle.s3r_record.specs.declared.fault.RecordFault.{RecordFault}
 use Rattle.s3r_record.specs.declared.fault.RecordFault.TheVariants as faults
 use Rattle.s3r_record.specs.declared.reading.Rest.{Rest}
@@ -51,14 +51,21 @@ flag_at left = do
   value ← flag_of left.bytes (place left)
   Ok (value.0, record { whole = left.whole; bytes = value.1 })
 
--- a length that passes the end makes the whole text wrong
-unfoldable pub text_at : Unread → Result (List ℕ × Unread) ℕ
-text_at left = do
-  len ← number_at w16 left
-  if nat_lt (length len.1.bytes) len.0 then Err (place left) else Ok (take len.0 len.1.bytes, past len.0 len.1)
+-- the next `len` bytes, of a field that begins at the place
+abbrev pub bytes_at : ℕ → ℕ → Unread → Result (List ℕ × Unread) ℕ
+bytes_at at len left = if nat_lt (length left.bytes) len then Err at else Ok (take len left.bytes, past len left)
 
--- a text that passes the test
-unfoldable pub tested_at : (List ℕ → Bool) → Unread → Result (List ℕ × Unread) ℕ
-tested_at test left = do
-  text ← text_at left
-  if test text.0 then Ok text else Err (place left)
+-- a length that passes the end makes the whole field wrong
+unfoldable pub sized_at : Width → Unread → Result (List ℕ × Unread) ℕ
+sized_at w left = do
+  len ← number_at w left
+  bytes_at (place left) len.0 len.1
+
+-- such bytes that pass the test
+unfoldable pub tested_at : Width → (List ℕ → Bool) → Unread → Result (List ℕ × Unread) ℕ
+tested_at w test left = do
+  bytes ← sized_at w left
+  if test bytes.0 then Ok bytes else Err (place left)
+
+abbrev pub is_body : List ℕ → Bool
+is_body bytes = nat_le (length bytes) 4194304

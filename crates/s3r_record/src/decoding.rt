@@ -3,14 +3,15 @@
 ghost use Rattle.std.specs.Prelude.{◌≡◌, ◌≤◌, length, IfOk, Ok};
 ghost use Rattle.s3r_record.specs.Spelling.{spelling, IsCommand};
 ghost use Rattle.s3r_record.specs.Reading.{Gives, unread};
-ghost use Rattle.s3r_record.specs.Commands.{create_bucket_at, fields_at, command_at};
+ghost use Rattle.s3r_record.specs.Commands.{create_bucket_at, put_at, fields_at, command_at};
 ghost use Rattle.s3r_record.specs.declared.command.Command.{Command};
 
 use crate::command::Command;
 use crate::fault::RecordFault;
-use crate::fields::{bucket_name_of, flag_of};
+use crate::fields::{body_of, bucket_name_of, class_of, flag_of, key_of};
 use crate::kinds;
 use crate::reading::Rest;
+use crate::tag_fields::tags_of;
 use std::alloc::Global;
 
 #[tactic(auto, unfolding(crate::specs::Commands::create_bucket_at))]
@@ -22,12 +23,34 @@ fn create_bucket(alloc: Global, fields: Rest<'_>) -> Result<(Command, Rest<'_>),
     Ok((Command::CreateBucket { name, locked }, rest))
 }
 
+#[tactic(auto, unfolding(crate::specs::Commands::put_at))]
+fn put(alloc: Global, fields: Rest<'_>) -> Result<(Command, Rest<'_>), RecordFault>
+    ensures { Gives (λ x. (x.0, unread x.1)) result (put_at (unread fields.entry)) }
+{
+    let (bucket, rest) = bucket_name_of(alloc, fields)?;
+    let (key, rest) = key_of(alloc, rest)?;
+    let (tags, rest) = tags_of(alloc, rest)?;
+    let (hold, rest) = flag_of(rest)?;
+    let (class, rest) = class_of(alloc, rest)?;
+    let (body, rest) = body_of(alloc, rest)?;
+    let command = Command::Put {
+        bucket,
+        key,
+        tags,
+        hold,
+        class,
+        body,
+    };
+    Ok((command, rest))
+}
+
 #[tactic(auto, unfolding(crate::specs::Commands::fields_at))]
 fn fields_of(alloc: Global, kind: u8, fields: Rest<'_>) -> Result<(Command, Rest<'_>), RecordFault>
     ensures { Gives (λ x. (x.0, unread x.1)) result (fields_at kind (unread fields.entry)) }
 {
     match kind {
         kinds::CREATE_BUCKET => create_bucket(alloc, fields),
+        kinds::PUT => put(alloc, fields),
         _ => Err(RecordFault::NotACommand(0)),
     }
 }

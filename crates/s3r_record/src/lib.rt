@@ -8,11 +8,12 @@ mod fault;
 mod fields;
 mod kinds;
 mod reading;
+mod tag_fields;
 mod writing;
 
 pub use command::Command;
 pub use decoding::{decode, one_spelling};
-pub use encoding::encode;
+pub use encoding::{encode, spelling_is_short};
 pub use fault::RecordFault;
 
 #[cfg(test)]

@@ -1,5 +1,5 @@
-use Rattle.std.proofs.Common.{refl, ap, length, arith, length-append}
+use Rattle.s3r.proofs.Running.{limits_fault}
 use Rattle.s3r.proofs.serve.ending_behind.Goals as goal
 
-pub returns-then-len-gt0-clause-told : goal.returns-then-len-gt0-clause-told
-returns-then-len-gt0-clause-told g c = λ told. (refl, λ e. absurd (omega (arith, ap length e, length-append c.args.buffer.now (g.W.World.outside c.args.world.now).input, c.len.ensures)))
+pub returns-in-Err-clause-told : goal.returns-in-Err-clause-told
+returns-in-Err-clause-told g c = λ told. limits_fault c.in-Err.fault c.stop_of.result c.stop_of.ensures c.in-Err.ensures.faults _ _

@@ -1,45 +1,91 @@
-use Rattle.std.proofs.Common.{◌≡◌, ℕ, List, Option, Result, Err, ◌++◌, length, sym, ◌∙◌, ap, subst}
+use Rattle.std.proofs.Common.{◌≡◌, ◌≤◌, ◌++◌, ℕ, Bool, false, true, List, [], ◌∷◌, length, Option, Some, None, IfSome, Result, Ok, Err, refl, inl, sym, ◌∙◌, ap, subst, arith}
 use Rattle.std.proofs.lemmas.Result.{err_from_is_err_and}
-use Rattle.s3r.specs.declared.requests.Reading.{Reading}
-use Rattle.s3r.specs.Requests.{ReadsRequest}
-use Rattle.s3r.specs.Answers.{answer_text}
-use Rattle.s3r.specs.Sends.{Sends}
-use Rattle.s3r.specs.declared.answer.Answer.{Answer}
-use Rattle.s3r.specs.declared.ending.Ending.{Ending}
-use Rattle.s3r.specs.declared.stop.Stop.{Stop}
-use Rattle.s3r.specs.declared.stop.Stop.TheVariants.{Full}
-use Rattle.s3r.specs.Commits.{Fits}
-use Rattle.s3r.specs.Run.{Serves}
-use Rattle.s3r.specs.Desk.{Responds, PassesRoom}
-use Rattle.s3r.proofs.Running.{stops_full, serving_more, desk_mid}
+use Rattle.s3r_world.specs.Moments.{falls_then}
+use Rattle.s3r_journal.proofs.Elsewhere.{left_keeps}
+use Rattle.s3r_desk.proofs.Keeps.{keeps_left, tied_left}
+use Rattle.s3r_http.specs.declared.message.HttpFault.{HttpFault}
+use Rattle.s3r_http.specs.declared.message.RawRequest.{RawRequest}
+use Rattle.s3r_http.specs.Request.{ReadsSome}
+use Rattle.s3r_api.specs.Texts.{problem_text}
+use Rattle.s3r.specs.declared.stop.Ending.TheVariants.{Over, Refused}
+use Rattle.s3r.proofs.Telling.{serves_turn, serves_none, serves_closing, ends_answered, ends_cut, refused_by, ends_refused, ends_refusal_cut, ends_unread}
 use Rattle.s3r.proofs.serve.serve_one.Goals as goal
 
-abbrev failed_with : Stop → Result Answer Stop
-failed_with stop = Err stop
+pub answer_one-requires-clause-tied : goal.answer_one-requires-clause-tied
+answer_one-requires-clause-tied g c = λ told.
+    tied_left c.args.desk.now.stores.items (g.W.World.outside c.args.world.now) (g.W.World.outside c.read_request.new.world) (λ q. left_keeps q _ _ (c.read_request.ensures.volumes told)) (c.requires.tied told)
 
-pub returns-in_err-answer-in-Request-clause-served : goal.returns-in_err-answer-in-Request-clause-served
-returns-in_err-answer-in-Request-clause-served g c = λ told requests input output serving.
-    let p = err_from_is_err_and c.from_residual-in_err-answer-in-Request.result c.from_residual-in_err-answer-in-Request.ensures.1 in
-    let before = (g.W.World.outside c.args.world.now).input in
-    let read = subst (λ (r : Reading). ReadsRequest r (c.args.buffer.now ++ before) (c.read_request.new.buffer ++ (g.W.World.outside c.read_request.new.world).input)) c.in-Request.is (c.in_ok-read_request.ensures.told told) in
-    let fault = c.in_err-answer-in-Request in
-    subst (λ (r : Result (Option Ending) Stop). Serves requests input output ((g.W.World.shape c.args.world.now).room 0) r c.make_bucket.new.self c.read_request.new.buffer (g.W.World.outside c.make_bucket.new.world)) (sym p.1)
-    (λ full.
-    let same : fault.field-0.0 ≡ Full = cc in
-    let mid = desk_mid requests input output c.args.buffer.now ((g.W.World.shape c.args.world.now).room 0) c.args.desk.now (g.W.World.outside c.args.world.now) serving c.read_request.new.buffer c.in-Request.name.items (g.W.World.outside c.read_request.new.world) read.0 read.1 (c.in_ok-read_request.ensures.volumes told) in
-    let passes = fault.ensures.full (ap failed_with same) told requests mid in
-    stops_full requests input output c.args.buffer.now ((g.W.World.shape c.args.world.now).room 0) c.args.desk.now (g.W.World.outside c.args.world.now) serving c.read_request.new.buffer c.in-Request.name.items (g.W.World.outside c.read_request.new.world) read.0 read.1 (c.in_ok-read_request.ensures.volumes told)
-    (subst (λ (n : ℕ). PassesRoom requests c.in-Request.name.items n) (c.in_ok-read_request.ensures.shape.room 0)
-    (subst (λ (n : List ℕ). PassesRoom requests n ((g.W.World.shape c.read_request.new.world).room 0)) c.deref.ensures.value passes)))
+pub answer_one-requires-clause-small : goal.answer_one-requires-clause-small
+answer_one-requires-clause-small g c = subst (λ (o : Option RawRequest). IfSome o (λ asked. length asked.body ≤ 4194304)) c.in-Ok-Some.field-0-is c.in-Ok-Some.ensures.small
 
-pub returns-in_ok-emit_all-in-Request-clause-served : goal.returns-in_ok-emit_all-in-Request-clause-served
-returns-in_ok-emit_all-in-Request-clause-served g c = λ told requests input output serving.
-    let before = (g.W.World.outside c.args.world.now).input in
-    let read = subst (λ (r : Reading). ReadsRequest r (c.args.buffer.now ++ before) (c.read_request.new.buffer ++ (g.W.World.outside c.read_request.new.world).input)) c.in-Request.is (c.in_ok-read_request.ensures.told told) in
-    let name = c.in-Request.name.items in
-    let room = (g.W.World.shape c.args.world.now).room 0 in
-    let same : (g.W.World.shape c.read_request.new.world).room 0 ≡ room = c.in_ok-read_request.ensures.shape.room 0 in
-    let fits = subst (λ (n : ℕ). Fits c.make_bucket.new.self.end n) same (c.in_ok-answer-in-Request.ensures.fits (subst (λ (n : ℕ). Fits c.args.desk.now.end n) (sym same) serving.fits)) in
-    let responds = subst (λ (n : List ℕ). Responds n c.in_ok-answer-in-Request.answer c.args.desk.now c.make_bucket.new.self (g.W.World.outside c.read_request.new.world) (g.W.World.outside c.make_bucket.new.world)) c.deref.ensures.value (c.in_ok-answer-in-Request.ensures.told told) in
-    let sends = subst (λ (t : List ℕ). Sends t (length t) (g.W.World.outside c.make_bucket.new.world) (g.W.World.outside c.emit_all-in-Request.new.world)) c.text-in-Request.ensures (c.in_ok-emit_all-in-Request.ensures.ok told) in
-    (name, serving_more requests input output c.args.buffer.now room c.args.desk.now (g.W.World.outside c.args.world.now) serving c.read_request.new.buffer name (g.W.World.outside c.read_request.new.world) read.0 read.1 (c.in_ok-read_request.ensures.volumes told) _ _ _ _ responds sends fits)
+pub returns-in_err-answer_one-in-Ok-Some-clause-told : goal.returns-in_err-answer_one-in-Ok-Some-clause-told
+returns-in_err-answer_one-in-Ok-Some-clause-told g c = λ told before keeps.
+    let start = g.W.World.outside c.args.world.now in
+    let mid = g.W.World.outside c.read_request.new.world in
+    let end = g.W.World.outside c.answer_one.new.world in
+    let stores = c.args.desk.now.stores.items in
+    let reads = c.read_request.ensures.volumes told in
+    let read = subst (λ (o : Option RawRequest). ReadsSome o (c.args.buffer.now ++ start.input) (c.read_request.new.buffer ++ mid.input)) c.in-Ok-Some.field-0-is (c.in-Ok-Some.ensures.told told) in
+    let rooms : (g.W.World.shape c.read_request.new.world).room ≡ (g.W.World.shape c.args.world.now).room = λ i v. (c.read_request.ensures.shape.room v) i in
+    let did = c.in_err-answer_one-in-Ok-Some.ensures.told told before (keeps_left before stores start mid (λ q. left_keeps q start mid reads) keeps) in
+    let p = err_from_is_err_and c.from_residual.result c.from_residual.ensures.1 in
+    rw (p.1, p.2) (serves_turn (length stores) (g.W.World.shape c.args.world.now).room (g.W.World.shape c.read_request.new.world).room before c.in-Ok-Some.raw (c.args.buffer.now ++ start.input) read.0 c.read_request.new.buffer (Err c.in_err-answer_one-in-Ok-Some.field-0.0) c.answer_one.new.desk.stores.items
+    start mid end (g.W.World.faults c.args.world.now) (g.W.World.faults c.read_request.new.world) (g.W.World.faults c.answer_one.new.world) rooms c.read_request.ensures.counts reads read.1 read.2 did
+    (Err c.in_err-answer_one-in-Ok-Some.field-0.0) (ends_cut c.in_err-answer_one-in-Ok-Some.field-0.0 c.in_err-answer_one-in-Ok-Some.ensures.stop (record { raw = c.in-Ok-Some.raw; text = read.0; outcome = did.outcome; step = did.step; sent = did.sent }) (c.read_request.new.buffer ++ end.input) end.input))
+
+pub returns-in_ok-answer_one-in-Ok-Some-clause-told : goal.returns-in_ok-answer_one-in-Ok-Some-clause-told
+returns-in_ok-answer_one-in-Ok-Some-clause-told g c = λ told before keeps.
+    let start = g.W.World.outside c.args.world.now in
+    let mid = g.W.World.outside c.read_request.new.world in
+    let end = g.W.World.outside c.answer_one.new.world in
+    let stores = c.args.desk.now.stores.items in
+    let reads = c.read_request.ensures.volumes told in
+    let read = subst (λ (o : Option RawRequest). ReadsSome o (c.args.buffer.now ++ start.input) (c.read_request.new.buffer ++ mid.input)) c.in-Ok-Some.field-0-is (c.in-Ok-Some.ensures.told told) in
+    let rooms : (g.W.World.shape c.read_request.new.world).room ≡ (g.W.World.shape c.args.world.now).room = λ i v. (c.read_request.ensures.shape.room v) i in
+    let did = c.in_ok-answer_one-in-Ok-Some.ensures.told told before (keeps_left before stores start mid (λ q. left_keeps q start mid reads) keeps) in
+    serves_turn (length stores) (g.W.World.shape c.args.world.now).room (g.W.World.shape c.read_request.new.world).room before c.in-Ok-Some.raw (c.args.buffer.now ++ start.input) read.0 c.read_request.new.buffer (Ok tt) c.answer_one.new.desk.stores.items
+    start mid end (g.W.World.faults c.args.world.now) (g.W.World.faults c.read_request.new.world) (g.W.World.faults c.answer_one.new.world) rooms c.read_request.ensures.counts reads read.1 read.2 did
+    (Ok c.ending_after.result) (ends_answered (record { raw = c.in-Ok-Some.raw; text = read.0; outcome = did.outcome; step = did.step; sent = did.sent }) did.more (c.read_request.new.buffer ++ end.input) end.input did.front did.whole c.in-Ok-Some.raw.last refl c.ending_after.result c.ending_after.ensures)
+
+pub returns-in-Ok-None-clause-told : goal.returns-in-Ok-None-clause-told
+returns-in-Ok-None-clause-told g c = λ told before keeps.
+    let start = g.W.World.outside c.args.world.now in
+    let mid = g.W.World.outside c.read_request.new.world in
+    let stores = c.args.desk.now.stores.items in
+    let read = subst (λ (o : Option RawRequest). ReadsSome o (c.args.buffer.now ++ start.input) (c.read_request.new.buffer ++ mid.input)) c.in-Ok-None.field-0-is (c.in-Ok-None.ensures.told told) in
+    serves_none (length stores) (g.W.World.shape c.args.world.now).room before (c.args.buffer.now ++ start.input) (c.read_request.new.buffer ++ mid.input) mid.input stores start mid mid (g.W.World.faults c.args.world.now) (g.W.World.faults c.read_request.new.world)
+    c.read_request.ensures.counts (c.read_request.ensures.volumes told) (read.0 ∙ sym read.1) keeps (Ok (Some Over)) (λ count lt. (refl, inl (omega (arith, lt), refl, read.1)))
+
+pub returns-in-None-clause-told : goal.returns-in-None-clause-told
+returns-in-None-clause-told g c = λ told before keeps.
+    let start = g.W.World.outside c.args.world.now in
+    let mid = g.W.World.outside c.read_request.new.world in
+    let stores = c.args.desk.now.stores.items in
+    serves_none (length stores) (g.W.World.shape c.args.world.now).room before (c.args.buffer.now ++ start.input) (c.read_request.new.buffer ++ mid.input) mid.input stores start mid mid (g.W.World.faults c.args.world.now) (g.W.World.faults c.read_request.new.world)
+    c.read_request.ensures.counts (c.read_request.ensures.volumes told) (sym (c.in-Err.ensures.kept told)) keeps (Err c.stop_of.result)
+    (ends_unread c.in-Err.fault c.stop_of.result c.read_request.new.buffer mid.input (sym c.framing_problem.ensures ∙ c.in-None.is) c.stop_of.ensures (λ e. c.in-Err.ensures.incomplete told (ap (λ (x : HttpFault). Err x) e)))
+
+pub returns-in_err-say-in-Some-clause-told : goal.returns-in_err-say-in-Some-clause-told
+returns-in_err-say-in-Some-clause-told g c = λ told before keeps.
+    let start = g.W.World.outside c.args.world.now in
+    let mid = g.W.World.outside c.read_request.new.world in
+    let end = g.W.World.outside c.say.new.world in
+    let stores = c.args.desk.now.stores.items in
+    let says = c.in_err-say-in-Some.ensures.told told (problem_text c.in-Some.problem false true) c.problem_bytes.ensures in
+    let same : c.args.buffer.now ++ start.input ≡ c.read_request.new.buffer ++ end.input = sym (c.in-Err.ensures.kept told) ∙ ap (λ (l : List ℕ). c.read_request.new.buffer ++ l) (sym says.input.input) in
+    let refused = refused_by c.in-Err.fault c.in-Some.problem (c.args.buffer.now ++ start.input) (c.read_request.new.buffer ++ end.input) (Err c.in_err-say-in-Some.field-0.0) mid end (sym c.framing_problem.ensures ∙ c.in-Some.is) (c.in-Err.ensures.cause told) (c.in-Err.ensures.refused told) same says in
+    let p = err_from_is_err_and c.from_residual-in_err-say-in-Some.result c.from_residual-in_err-say-in-Some.ensures.1 in
+    rw (p.1, p.2) (serves_closing (length stores) (g.W.World.shape c.args.world.now).room before (c.args.buffer.now ++ start.input) (c.read_request.new.buffer ++ end.input) end.input stores start mid end (g.W.World.faults c.args.world.now) (g.W.World.faults c.say.new.world)
+    (falls_then _ _ _ c.read_request.ensures.counts c.say.ensures.counts) (c.read_request.ensures.volumes told) same keeps (Err c.in_err-say-in-Some.field-0.0) (problem_text c.in-Some.problem false true) (Err c.in_err-say-in-Some.field-0.0) says
+    (ends_refusal_cut c.in_err-say-in-Some.field-0.0 c.in_err-say-in-Some.ensures.stop (problem_text c.in-Some.problem false true) (c.read_request.new.buffer ++ end.input) end.input mid end says refused))
+
+pub returns-in_ok-say-in-Some-clause-told : goal.returns-in_ok-say-in-Some-clause-told
+returns-in_ok-say-in-Some-clause-told g c = λ told before keeps.
+    let start = g.W.World.outside c.args.world.now in
+    let mid = g.W.World.outside c.read_request.new.world in
+    let end = g.W.World.outside c.say.new.world in
+    let stores = c.args.desk.now.stores.items in
+    let says = c.in_ok-say-in-Some.ensures.told told (problem_text c.in-Some.problem false true) c.problem_bytes.ensures in
+    let same : c.args.buffer.now ++ start.input ≡ c.read_request.new.buffer ++ end.input = sym (c.in-Err.ensures.kept told) ∙ ap (λ (l : List ℕ). c.read_request.new.buffer ++ l) (sym says.input.input) in
+    serves_closing (length stores) (g.W.World.shape c.args.world.now).room before (c.args.buffer.now ++ start.input) (c.read_request.new.buffer ++ end.input) end.input stores start mid end (g.W.World.faults c.args.world.now) (g.W.World.faults c.say.new.world)
+    (falls_then _ _ _ c.read_request.ensures.counts c.say.ensures.counts) (c.read_request.ensures.volumes told) same keeps (Ok (Some Refused)) (problem_text c.in-Some.problem false true) (Ok tt) says (ends_refused c.in-Err.fault c.in-Some.problem (c.args.buffer.now ++ start.input) (c.read_request.new.buffer ++ end.input) end.input mid end (sym c.framing_problem.ensures ∙ c.in-Some.is) (c.in-Err.ensures.cause told) (c.in-Err.ensures.refused told) same says)

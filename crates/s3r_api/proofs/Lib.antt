@@ -1,0 +1,4 @@
+pub mod Locations
+pub mod Requests
+pub mod TextExamples
+pub mod RequestExamples

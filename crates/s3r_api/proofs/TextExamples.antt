@@ -1,0 +1,50 @@
+-- The texts of some answers.
+use Rattle.std.proofs.Common.{◌≡◌, true, false, Ok, Err, codes, refl}
+use Rattle.std.specs.Fmt.{digits}
+use Rattle.serde_json.proofs.OnLiterals.{serde_json_on_literals}
+use Rattle.s3r_names.specs.Version.{hex_digits}
+use Rattle.s3r_history.specs.declared.refusal.Refusal.TheVariants as refusal
+use Rattle.s3r_http.specs.Response.{code_text, status_line, length_line, last_line}
+use Rattle.s3r_desk.specs.declared.fault.DeskFault.TheVariants as fault
+use Rattle.s3r_desk.specs.declared.request.Answer.TheVariants as answer
+use Rattle.s3r_api.specs.declared.problem.Problem.TheVariants as problem
+use Rattle.s3r_api.specs.Texts.{reply_text, answer_text, problem_text}
+
+exists : answer_text (Ok (answer.Refused refusal.BucketAlreadyExists)) false false
+    ≡ codes "HTTP/1.1 409 Conflict\r\nContent-Length: 30\r\nContent-Type: application/json\r\n\r\n{\"Code\":\"BucketAlreadyExists\"}"
+unfolding reply_text status_line code_text length_line last_line digits serde_json_on_literals
+exists = refl
+
+cut_short : problem_text problem.CutShort false true
+    ≡ codes "HTTP/1.1 400 Bad Request\r\nContent-Length: 19\r\nContent-Type: application/json\r\nConnection: close\r\n\r\n{\"Code\":\"CutShort\"}"
+unfolding reply_text status_line code_text length_line last_line digits serde_json_on_literals
+cut_short = refl
+
+object : answer_text (Ok (answer.Object (record { region = 0; index = 2 }) (codes "hi"))) false false
+    ≡ codes "HTTP/1.1 200 OK\r\nContent-Length: 2\r\nx-amz-version-id: 0-0000000000000002\r\n\r\nhi"
+unfolding reply_text status_line code_text length_line last_line digits hex_digits
+object = refl
+
+head : answer_text (Ok (answer.Object (record { region = 3; index = 255 }) (codes "hi"))) true false
+    ≡ codes "HTTP/1.1 200 OK\r\nContent-Length: 2\r\nx-amz-version-id: 3-00000000000000ff\r\n\r\n"
+unfolding reply_text status_line code_text length_line last_line digits hex_digits
+head = refl
+
+done : answer_text (Ok answer.Done) false true ≡ codes "HTTP/1.1 200 OK\r\nContent-Length: 0\r\nConnection: close\r\n\r\n"
+unfolding reply_text status_line code_text length_line last_line digits
+done = refl
+
+lock_needed : answer_text (Ok (answer.Refused refusal.LockNeeded)) false false
+    ≡ codes "HTTP/1.1 400 Bad Request\r\nContent-Length: 54\r\nContent-Type: application/json\r\n\r\n{\"Code\":\"InvalidRequest\",\"Kind\":\"LockNeeded\",\"Rule\":0}"
+unfolding reply_text status_line code_text length_line last_line digits serde_json_on_literals
+lock_needed = refl
+
+damaged : answer_text (Err (fault.Damaged 3 16)) false false
+    ≡ codes "HTTP/1.1 500 Internal Server Error\r\nContent-Length: 44\r\nContent-Type: application/json\r\n\r\n{\"Code\":\"Damaged\",\"Offset\":16,\"Region\":\"r3\"}"
+unfolding reply_text status_line code_text length_line last_line digits serde_json_on_literals
+damaged = refl
+
+full : answer_text (Err (fault.Full 1)) true false
+    ≡ codes "HTTP/1.1 507 Insufficient Storage\r\nContent-Length: 35\r\nContent-Type: application/json\r\n\r\n"
+unfolding reply_text status_line code_text length_line last_line digits serde_json_on_literals
+full = refl

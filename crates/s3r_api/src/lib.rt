@@ -1,0 +1,16 @@
+//! From a framed request to a request of the desk, and from an answer to its bytes.
+#![tactic(auto)]
+
+mod answer;
+mod location;
+mod problem;
+mod replies;
+mod request;
+mod target;
+
+pub use answer::{answer_bytes, ids_are_spelled, problem_bytes};
+pub use problem::{Problem, framing_problem};
+pub use request::{is_head, to_request};
+
+#[cfg(test)]
+mod tests;

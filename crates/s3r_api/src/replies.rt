@@ -1,0 +1,136 @@
+//! What refusals answer.
+
+ghost use Rattle.std.specs.Prelude.{◌≡◌, IfOk, string_bytes, codes};
+ghost use Rattle.serde_json.specs.Data.{no_members, member, string, number, unsigned};
+ghost use Rattle.serde_json.specs.View.{view};
+ghost use Rattle.s3r_api.specs.Replies.{json_reply, code_data, code_text, coded, region_members, rule_members, refusal_reply, fault_reply, problem_reply};
+
+use crate::problem::Problem;
+use http::StatusCode;
+use s3r_desk::{DeskFault, Refusal};
+use serde_json::{Value, json};
+use std::alloc::{AllocError, Global};
+
+/// An answer whose body is JSON.
+#[derive(Drop)]
+pub struct JsonReply {
+    pub status: StatusCode,
+    pub body: String,
+}
+
+fn code_value(alloc: Global, code: &str) -> Result<Value, AllocError>
+    ensures { IfOk result (λ value. view value ≡ code_data code.now no_members) }
+{
+    json!(in alloc; {"Code": code})
+}
+
+fn region_value(alloc: Global, code: &str, region: &str) -> Result<Value, AllocError>
+    ensures { IfOk result (λ value. view value ≡ code_data code.now (member (codes "Region") (string region.now) no_members)) }
+{
+    json!(in alloc; {"Code": code, "Region": region})
+}
+
+fn place_value(alloc: Global, code: &str, region: &str, offset: u64) -> Result<Value, AllocError>
+    ensures { IfOk result (λ value. view value ≡ code_data code.now (member (codes "Offset") (number (unsigned offset)) (member (codes "Region") (string region.now) no_members))) }
+{
+    json!(in alloc; {"Code": code, "Offset": offset, "Region": region})
+}
+
+/// What is wrong at a rule, 0 where it is at none.
+fn rule_value(alloc: Global, code: &str, kind: &str, rule: u32) -> Result<Value, AllocError>
+    ensures { IfOk result (λ value. view value ≡ code_data code.now (rule_members kind.now rule)) }
+{
+    json!(in alloc; {"Code": code, "Kind": kind, "Rule": rule})
+}
+
+fn code_text(alloc: Global, code: &str) -> Result<String, AllocError>
+    ensures { IfOk result (λ text. string_bytes text ≡ code_text code.now no_members) }
+{
+    code_value(alloc, code)?.to_string(alloc)
+}
+
+fn region_text(alloc: Global, code: &str, region: u32) -> Result<String, AllocError>
+    ensures { IfOk result (λ text. string_bytes text ≡ code_text code.now (region_members region)) }
+{
+    let region = format!(in alloc; "r{region}")?;
+    region_value(alloc, code, region.as_str())?.to_string(alloc)
+}
+
+fn place_text(alloc: Global, code: &str, region: u32, offset: u64) -> Result<String, AllocError>
+    ensures { IfOk result (λ text. string_bytes text ≡ code_text code.now (member (codes "Offset") (number (unsigned offset)) (region_members region))) }
+{
+    let region = format!(in alloc; "r{region}")?;
+    place_value(alloc, code, region.as_str(), offset)?.to_string(alloc)
+}
+
+fn rule_text(alloc: Global, code: &str, kind: &str, rule: u32) -> Result<String, AllocError>
+    ensures { IfOk result (λ text. string_bytes text ≡ code_text code.now (rule_members kind.now rule)) }
+{
+    rule_value(alloc, code, kind, rule)?.to_string(alloc)
+}
+
+fn coded(alloc: Global, status: StatusCode, code: &str) -> Result<JsonReply, AllocError>
+    ensures { IfOk result (λ reply. json_reply reply.status (string_bytes reply.body) ≡ coded status code.now) }
+{
+    let body = code_text(alloc, code)?;
+    Ok(JsonReply { status, body })
+}
+
+pub fn refusal_reply(alloc: Global, refusal: Refusal) -> Result<JsonReply, AllocError>
+    ensures { IfOk result (λ reply. json_reply reply.status (string_bytes reply.body) ≡ refusal_reply refusal) }
+{
+    match refusal {
+        Refusal::NoSuchBucket => coded(alloc, StatusCode::NOT_FOUND, "NoSuchBucket"),
+        Refusal::BucketAlreadyExists => coded(alloc, StatusCode::CONFLICT, "BucketAlreadyExists"),
+        Refusal::LockNeeded => Ok(JsonReply {
+            status: StatusCode::BAD_REQUEST,
+            body: rule_text(alloc, "InvalidRequest", "LockNeeded", 0)?,
+        }),
+        Refusal::TooManyBuckets => coded(alloc, StatusCode::BAD_REQUEST, "TooManyBuckets"),
+        Refusal::NoSuchKey => coded(alloc, StatusCode::NOT_FOUND, "NoSuchKey"),
+        Refusal::InvalidLocation => {
+            coded(alloc, StatusCode::BAD_REQUEST, "InvalidLocationConstraint")
+        }
+    }
+}
+
+pub fn fault_reply(alloc: Global, fault: DeskFault) -> Result<JsonReply, AllocError>
+    ensures { IfOk result (λ reply. json_reply reply.status (string_bytes reply.body) ≡ fault_reply fault) }
+{
+    match fault {
+        DeskFault::Volume(region) => Ok(JsonReply {
+            status: StatusCode::SERVICE_UNAVAILABLE,
+            body: region_text(alloc, "VolumeFault", region)?,
+        }),
+        DeskFault::Full(region) => Ok(JsonReply {
+            status: StatusCode::INSUFFICIENT_STORAGE,
+            body: region_text(alloc, "VolumeFull", region)?,
+        }),
+        DeskFault::Damaged { v, offset } => Ok(JsonReply {
+            status: StatusCode::INTERNAL_SERVER_ERROR,
+            body: place_text(alloc, "Damaged", v, offset)?,
+        }),
+        DeskFault::OutOfMemory => coded(alloc, StatusCode::INTERNAL_SERVER_ERROR, "OutOfMemory"),
+    }
+}
+
+pub fn problem_reply(alloc: Global, problem: Problem) -> Result<JsonReply, AllocError>
+    ensures { IfOk result (λ reply. json_reply reply.status (string_bytes reply.body) ≡ problem_reply problem) }
+{
+    let (status, code) = match problem {
+        Problem::InvalidBucketName => (StatusCode::BAD_REQUEST, "InvalidBucketName"),
+        Problem::KeyTooLong => (StatusCode::BAD_REQUEST, "KeyTooLongError"),
+        Problem::InvalidKey => (StatusCode::BAD_REQUEST, "InvalidURI"),
+        Problem::MalformedJson => (StatusCode::BAD_REQUEST, "MalformedJSON"),
+        Problem::NoSuchRoute => (StatusCode::NOT_FOUND, "NoSuchRoute"),
+        Problem::UnknownQuery => (StatusCode::NOT_IMPLEMENTED, "NotImplemented"),
+        Problem::BadHead => (StatusCode::BAD_REQUEST, "BadHead"),
+        Problem::HeadTooLong => (StatusCode::REQUEST_HEADER_FIELDS_TOO_LARGE, "HeadTooLong"),
+        Problem::BadLength => (StatusCode::BAD_REQUEST, "BadLength"),
+        Problem::EntityTooLarge => (StatusCode::BAD_REQUEST, "EntityTooLarge"),
+        Problem::NotImplemented => (StatusCode::NOT_IMPLEMENTED, "NotImplemented"),
+        Problem::CutShort => (StatusCode::BAD_REQUEST, "CutShort"),
+        Problem::OutOfMemory => (StatusCode::INTERNAL_SERVER_ERROR, "OutOfMemory"),
+    };
+    coded(alloc, status, code)
+}

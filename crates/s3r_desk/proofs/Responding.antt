@@ -1,0 +1,70 @@
+-- A request's turn: all regions are touched, and then its step is made.
+use Rattle.std.proofs.Common.{◌≡◌, ℕ, List, [], ◌++◌, length, Result, Ok, Err, refl, sym, subst, inl, inr, append_assoc}
+use Rattle.s3r_world.specs.Image.{Image}
+use Rattle.s3r_world.specs.Outside.{Outside}
+use Rattle.s3r_store.specs.declared.store.Store.{Store}
+use Rattle.s3r_desk.specs.declared.fault.DeskFault.{DeskFault}
+use Rattle.s3r_desk.specs.declared.fault.DeskFault.TheVariants as faults
+use Rattle.s3r_desk.specs.declared.request.Request.{Request}
+use Rattle.s3r_desk.specs.declared.request.Answer.{Answer}
+use Rattle.s3r_desk.specs.Events.{Events, history_at}
+use Rattle.s3r_desk.specs.Steps.{Commit, Histories, step}
+use Rattle.s3r_desk.specs.Keeping.{Keeps, AreRead}
+use Rattle.s3r_desk.specs.Progress.{Happens}
+use Rattle.s3r_desk.specs.Responds.{AreKnown, Comes, FailsToTouch, IsDamage, Touches, Answers, Responds}
+use Rattle.s3r_desk.proofs.Stepping.{happens_then}
+use Rattle.s3r_desk.proofs.Homes.{all_known}
+
+-- a step finds no damage
+undamaged : (w : Image) (room : ℕ → ℕ) (at : Histories) (commits : List Commit) (reply : Answer) (events : Events) (result : Result Answer DeskFault) → Comes room at commits reply events result → IsDamage w result
+undamaged w room at commits reply events (Ok a) comes = tt
+undamaged w room at commits reply events (Err (faults.Volume v)) comes = tt
+undamaged w room at commits reply events (Err (faults.Full v)) comes = tt
+undamaged w room at commits reply events (Err (faults.Damaged v offset)) comes = absurd comes
+undamaged w room at commits reply events (Err faults.OutOfMemory) comes = tt
+
+-- the fault is told of another type
+pub fails_as : (A B : Type 0) (e : DeskFault) → FailsToTouch {A = A} (Err e) → FailsToTouch {A = B} (Err e)
+fails_as A B (faults.Volume v) f = tt
+fails_as A B (faults.Full v) f = f
+fails_as A B (faults.Damaged v offset) f = tt
+fails_as A B faults.OutOfMemory f = tt
+
+pub damage_as : (A B : Type 0) (w : Image) (e : DeskFault) → IsDamage {A = A} w (Err e) → IsDamage {A = B} w (Err e)
+damage_as A B w (faults.Volume v) d = tt
+damage_as A B w (faults.Full v) d = tt
+damage_as A B w (faults.Damaged v offset) d = d
+damage_as A B w faults.OutOfMemory d = tt
+
+module _ (before : Events) (request : Request) (room : ℕ → ℕ) (a b : List Store) (old mid : Outside) (touches : Touches before a b old mid) where
+  -- a touch failed
+  pub responds_failed : (result : Result Answer DeskFault) → FailsToTouch result → IsDamage old.as_read result → Responds before request result room a b old mid
+  responds_failed result fails damage = record {
+    events = touches.touched;
+    turn = record { touched = touches.touched; rest = []; parts = refl; touches = touches.touches; steps = inr (refl, fails) };
+    keeps = touches.keeps;
+    happens = touches.happens;
+    damage = damage;
+  }
+
+  -- the step was made
+  pub responds_stepped : (d : List Store) (new : Outside) (room' : ℕ → ℕ) (result : Result Answer DeskFault) → length b ≡ length a → room' ≡ room → AreRead b → Answers (touches.touched ++ before) request result room' b d mid new → Responds before request result room a d old new
+  responds_stepped d new room' result same rooms read did = record {
+    events = did.rest ++ touches.touched;
+    turn = record {
+      touched = touches.touched;
+      rest = did.rest;
+      parts = refl;
+      touches = touches.touches;
+      steps = inl (known, subst (λ (n : ℕ). let s = step n at request in Comes room at s.commits s.reply did.rest result) same (subst (λ (x : ℕ → ℕ). Comes x at (step (length b) at request).commits (step (length b) at request).reply did.rest result) rooms did.comes));
+    };
+    keeps = subst (λ (l : Events). Keeps l d new) (sym (append_assoc did.rest touches.touched before)) did.keeps;
+    happens = happens_then (length a) touches.touched did.rest old mid new touches.happens (subst (λ (n : ℕ). Happens n did.rest mid new) same did.happens);
+    damage = undamaged old.as_read room' at (step (length b) at request).commits (step (length b) at request).reply did.rest result did.comes;
+  }
+    where
+      at : Histories
+      at = history_at (touches.touched ++ before)
+
+      known : AreKnown (length a) (touches.touched ++ before)
+      known = subst (λ (n : ℕ). AreKnown n (touches.touched ++ before)) same (all_known (touches.touched ++ before) b mid touches.keeps read)

@@ -1,0 +1,131 @@
+-- What the desk does at a request.
+use Rattle.std.specs.Prelude.{◌≡◌, ◌⊎◌, ℕ, ◌+◌, ◌<◌, ◌≤◌, List, [], ◌∷◌, ◌++◌, length, Option, Some, None, Result, Ok, Err, IsSome}
+use Rattle.s3r_world.specs.Image.{Image}
+use Rattle.s3r_world.specs.Outside.{Outside, Looks, Counts, Rises}
+use Rattle.s3r_record.specs.declared.command.Command.{Command}
+use Rattle.s3r_history.specs.Words.{History}
+use Rattle.s3r_history.specs.Accepts.{refusal}
+use Rattle.s3r_desk.specs.declared.committing.Committed.{Committed}
+use Rattle.s3r_desk.specs.declared.committing.Committed.TheVariants as committed
+use Rattle.s3r_store.specs.Stands.{StandsFor, DamagedAt}
+use Rattle.s3r_store.specs.Commits.{length_with}
+use Rattle.s3r_store.specs.declared.store.Store.{Store}
+use Rattle.s3r_desk.specs.declared.fault.DeskFault.{DeskFault}
+use Rattle.s3r_desk.specs.declared.fault.DeskFault.TheVariants as faults
+use Rattle.s3r_desk.specs.declared.request.Request.{Request}
+use Rattle.s3r_desk.specs.declared.request.Answer.{Answer}
+use Rattle.s3r_desk.specs.Events.{found, began, answered, Events, known, history_at}
+use Rattle.s3r_desk.specs.Steps.{Commit, Step, step, put_in, made, FitRooms}
+use Rattle.s3r_desk.specs.Keeping.{Keeps}
+use Rattle.s3r_desk.specs.Progress.{Happens}
+
+-- regions below n of which nothing was known were found to have histories that have P
+abbrev pub AreTouched : (ℕ → History → Type 0) → ℕ → Events → Events → Type 0
+AreTouched P n before [] = Unit {0}
+AreTouched P n before (found r h ∷ events) = (r < n) × (known (events ++ before) r ≡ None) × P r h × AreTouched P n before events
+AreTouched P n before (began r c ∷ events) = ⊥
+AreTouched P n before (answered text ∷ events) = ⊥
+
+-- the history of each region below n is known
+abbrev pub AreKnown : ℕ → Events → Type 0
+AreKnown n events = (r : ℕ) → r < n → IsSome (known events r)
+
+-- the one commit of a step began, and is in doubt
+pub record IsBegun (commits : List Commit) (events : Events) : Type 0 where
+  pub commit : Commit
+  pub one : commits ≡ commit ∷ []
+  pub begun : events ≡ began commit.region commit.command ∷ []
+
+-- a commit would pass the room of its volume
+pub record PassesRoom (room : ℕ → ℕ) (v : ℕ) (at : ℕ → History) (commits : List Commit) : Type 0 where
+  pub command : Command
+  pub one : commits ≡ record { region = v; command = command } ∷ []
+  pub full : room v < length_with v (at v) command
+
+-- what a request comes to where all histories are known: its step, whole, or its commit in doubt, or none
+abbrev pub Comes : (ℕ → ℕ) → (ℕ → History) → List Commit → Answer → Events → Result Answer DeskFault → Type 0
+Comes room at commits reply events (Ok a) = (a ≡ reply) × (events ≡ made at commits) × FitRooms room at commits
+Comes room at commits reply events (Err (faults.Volume v)) = IsBegun commits events
+Comes room at commits reply events (Err (faults.Full v)) = (events ≡ []) × PassesRoom room v at commits
+Comes room at commits reply events (Err (faults.Damaged v offset)) = ⊥
+Comes room at commits reply events (Err faults.OutOfMemory) = (events ≡ []) ⊎ IsBegun commits events
+
+abbrev pub Steps : ℕ → (ℕ → ℕ) → Events → Request → Events → Result Answer DeskFault → Type 0
+Steps n room before request events result = let at = history_at before in let s = step n at request in Comes room at s.commits s.reply events result
+
+-- a touch failed: want of memory, a volume's fault, or damage
+abbrev pub FailsToTouch : {A : Type 0} → Result A DeskFault → Type 0
+FailsToTouch (Ok a) = ⊥
+FailsToTouch (Err (faults.Volume v)) = Unit {0}
+FailsToTouch (Err (faults.Full v)) = ⊥
+FailsToTouch (Err (faults.Damaged v offset)) = Unit {0}
+FailsToTouch (Err faults.OutOfMemory) = Unit {0}
+
+-- All regions are touched in order, and then the request's step is made; or a touch fails.
+pub record IsTurn (P : ℕ → History → Type 0) (n : ℕ) (room : ℕ → ℕ) (before : Events) (request : Request) (result : Result Answer DeskFault) (events : Events) : Type 0 where
+  pub touched : Events
+  pub rest : Events
+  pub parts : events ≡ rest ++ touched
+  pub touches : AreTouched P n before touched
+  pub steps : (AreKnown n (touched ++ before) × Steps n room (touched ++ before) request rest result) ⊎ ((rest ≡ []) × FailsToTouch result)
+
+-- what a volume's bytes stand for
+abbrev pub AsRead : Outside → ℕ → History → Type 0
+AsRead w r h = StandsFor r h (w.as_read.volume r)
+
+-- damage is where the volume stands for no lawful history
+abbrev pub IsDamage : {A : Type 0} → Image → Result A DeskFault → Type 0
+IsDamage c (Ok a) = Unit {0}
+IsDamage c (Err (faults.Volume v)) = Unit {0}
+IsDamage c (Err (faults.Full v)) = Unit {0}
+IsDamage c (Err (faults.Damaged v offset)) = DamagedAt v offset (c.volume v) × ((k : History) → StandsFor v k (c.volume v) → ⊥)
+IsDamage c (Err faults.OutOfMemory) = Unit {0}
+
+-- The regions were touched in order, up to the first fault.
+pub record Touches (before : Events) (a b : List Store) (old new : Outside) : Type 0 where
+  pub touched : Events
+  pub touches : AreTouched (AsRead old) (length a) before touched
+  pub keeps : Keeps (touched ++ before) b new
+  pub looks : Looks old new
+  pub happens : Happens (length a) touched old new
+
+-- A command was committed to a region of this history, or not.
+abbrev pub CommitsOne : Events → ℕ → ℕ → History → Command → ℕ → Result Committed DeskFault → List Store → Outside → Outside → Type 0
+CommitsOne before n r h c room (Ok (committed.At index)) b old new =
+    (index ≡ length h + 1) × (refusal h c ≡ None) × (length_with r h c ≤ room) × Keeps (found r (c ∷ h) ∷ began r c ∷ before) b new × Happens n (found r (c ∷ h) ∷ began r c ∷ []) old new
+CommitsOne before n r h c room (Ok (committed.Refused why)) b old new = (refusal h c ≡ Some why) × Keeps before b new × Happens n [] old new
+CommitsOne before n r h c room (Err (faults.Volume v)) b old new = (v ≡ r) × (refusal h c ≡ None) × Keeps (began r c ∷ before) b new × Happens n (began r c ∷ []) old new
+CommitsOne before n r h c room (Err (faults.Full v)) b old new = (v ≡ r) × (refusal h c ≡ None) × (room < length_with r h c) × Keeps before b new × Happens n [] old new
+CommitsOne before n r h c room (Err (faults.Damaged v offset)) b old new = ⊥
+CommitsOne before n r h c room (Err faults.OutOfMemory) b old new = (refusal h c ≡ None) × Keeps (began r c ∷ before) b new × Happens n (began r c ∷ []) old new
+
+-- A step was made, all regions being read: whole, or its commit is in doubt, or nothing was done.
+pub record Came (before : Events) (s : Step) (result : Result Answer DeskFault) (room : ℕ → ℕ) (a b : List Store) (old new : Outside) : Type 0 where
+  pub rest : Events
+  pub comes : Comes room (history_at before) s.commits s.reply rest result
+  pub keeps : Keeps (rest ++ before) b new
+  pub happens : Happens (length a) rest old new
+
+-- a request was answered by its step
+abbrev pub Answers : Events → Request → Result Answer DeskFault → (ℕ → ℕ) → List Store → List Store → Outside → Outside → Type 0
+Answers before request result room a b old new = Came before (step (length a) (history_at before) request) result room a b old new
+
+-- a version was put into the bucket's region
+abbrev pub Puts : Events → Option ℕ → Command → Result Answer DeskFault → (ℕ → ℕ) → List Store → List Store → Outside → Outside → Type 0
+Puts before home c result room a b old new = Came before (put_in (history_at before) c home) result room a b old new
+
+-- The desk did this at a request.
+pub record Responds (before : Events) (request : Request) (result : Result Answer DeskFault) (room : ℕ → ℕ) (a b : List Store) (old new : Outside) : Type 0 where
+  pub events : Events
+  pub turn : IsTurn (AsRead old) (length a) room before request result events
+  pub keeps : Keeps (events ++ before) b new
+  pub happens : Happens (length a) events old new
+  pub damage : IsDamage old.as_read result
+
+-- a fault was counted, and is told of its volume
+abbrev pub HasCause : {A : Type 0} → ℕ → Result A DeskFault → Counts → Counts → Type 0
+HasCause n (Ok a) old new = Unit {0}
+HasCause n (Err (faults.Volume v)) old new = (v < n) × Rises 1 (old.volume v) (new.volume v)
+HasCause n (Err (faults.Full v)) old new = v < n
+HasCause n (Err (faults.Damaged v offset)) old new = v < n
+HasCause n (Err faults.OutOfMemory) old new = Unit {0}

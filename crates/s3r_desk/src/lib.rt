@@ -1,0 +1,17 @@
+//! All regions as one desk: each request is one step over their histories, committed before it is answered.
+#![tactic(auto)]
+
+mod answering;
+mod committing;
+mod desk;
+mod fault;
+mod request;
+mod touching;
+
+pub use desk::Desk;
+pub use fault::DeskFault;
+pub use request::{Answer, Request};
+pub use s3r_history::Refusal;
+
+#[cfg(test)]
+mod tests;

@@ -1,0 +1,3 @@
+pub mod HistoryRows
+pub mod HistoryNames
+pub mod HistoryExamples

@@ -1,0 +1,14 @@
+use Rattle.s3r_history.proofs.HistoryRows.{rows_listed, ids_own, put_new, put_latest}
+use Rattle.s3r_history.proofs.laws.rows_are_listed.Goals as goal
+
+pub returns-clause-listed : goal.returns-clause-listed
+returns-clause-listed c = rows_listed
+
+pub returns-clause-own : goal.returns-clause-own
+returns-clause-own c = ids_own
+
+pub returns-clause-put_is_latest : goal.returns-clause-put_is_latest
+returns-clause-put_is_latest c = put_latest
+
+pub returns-clause-new : goal.returns-clause-new
+returns-clause-new c = put_new

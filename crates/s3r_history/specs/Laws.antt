@@ -1,0 +1,42 @@
+-- What is true of every history.
+use Rattle.std.specs.Prelude.{◌≡◌, ◌≤◌, ℕ, Bool, true, not, ◌&&◌, List, [], ◌∷◌, Some, None, Contains, length}
+use Rattle.std.specs.List.{list_any}
+use Rattle.std.specs.Str.{bytes_eq}
+use Rattle.s3r_names.specs.declared.tags.Tag.{Tag}
+use Rattle.s3r_names.specs.declared.version.VersionId.{VersionId}
+use Rattle.s3r_record.specs.declared.command.Command.TheVariants as command
+use Rattle.s3r_versions.specs.Order.{is_listed}
+use Rattle.s3r_history.specs.Words.{Name, History}
+use Rattle.s3r_history.specs.Buckets.{is_there, names}
+use Rattle.s3r_history.specs.Past.{Entry}
+use Rattle.s3r_history.specs.Deeds.{deeds, next_stamp, version}
+use Rattle.s3r_history.specs.Rows.{rows, row_at, latest}
+
+-- a bucket's rows stand in the listing order
+abbrev pub RowsAreListed : Type 0
+RowsAreListed = (r : ℕ) (h : History) (b : Name) → is_listed (rows (deeds r h) b) ≡ true
+
+-- a row's id is of its region and of a command of the history
+abbrev pub IdsAreOwn : Type 0
+IdsAreOwn = (r : ℕ) (h : History) (b : Name) (row : Entry) → Contains (rows (deeds r h) b) row → (row.id.region ≡ r) × (row.id.index ≤ length h)
+
+-- the id that the next command gives isn't there
+abbrev pub IdsAreNew : Type 0
+IdsAreNew = (r : ℕ) (h : History) (b key : Name) (id : VersionId) → id.index ≡ (next_stamp r (deeds r h)).index → row_at (deeds r h) b key id ≡ None
+
+-- what a Put wrote is the latest row of its key
+abbrev pub PutIsLatest : Type 0
+PutIsLatest = (r : ℕ) (h : History) (b key : Name) (tags : List Tag) (hold : Bool) (class body : List ℕ)
+    → latest (deeds r (command.Put b key tags hold class body ∷ h)) b key ≡ Some (version (next_stamp r (deeds r h)) key tags hold class body)
+
+-- a name is counted where its bucket is there
+abbrev pub NamesAreThose : Type 0
+NamesAreThose = (h : History) (b : Name) → list_any (λ name. bytes_eq name b) (names h) ≡ is_there h b
+
+-- no name stands among those that follow it
+abbrev pub is_once : List Name → Bool
+is_once [] = true
+is_once (name ∷ names) = not (list_any (λ other. bytes_eq other name) names) && is_once names
+
+abbrev pub NoNameTwice : Type 0
+NoNameTwice = (h : History) → is_once (names h) ≡ true

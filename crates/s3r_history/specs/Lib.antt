@@ -1,0 +1,7 @@
+pub mod Words
+pub mod Buckets
+pub mod Past
+pub mod Deeds
+pub mod Rows
+pub mod Accepts
+pub mod Laws

@@ -1,0 +1,36 @@
+-- What commands did.
+use Rattle.std.specs.Prelude.{ℕ, max, List, [], ◌∷◌, Option}
+use Rattle.s3r_names.specs.declared.stamp.Stamp.{Stamp}
+use Rattle.s3r_versions.specs.declared.row.Row.{Row}
+use Rattle.s3r_record.specs.declared.command.Command.{Command}
+use Rattle.s3r_record.specs.declared.command.Command.TheVariants as command
+use Rattle.s3r_history.specs.Words.{Name}
+
+-- a row as it stands in the definitions, with its body's bytes
+abbrev pub Entry : Type 0
+Entry = Row (List ℕ)
+
+-- a row as a command added it, and the bucket that it was added to
+pub record Added : Type 0 where
+  pub bucket : Name
+  pub row : Entry
+
+-- What a command did: its stamp where it writes, and what it added. Each is decided by the deeds before it.
+pub record Deed : Type 0 where
+  pub command : Command
+  pub stamp : Stamp
+  pub adds : Option Added
+
+-- what the commands of a history did, the newest first
+abbrev pub Past : Type 0
+Past = List Deed
+
+-- the greatest n that a command has
+abbrev pub n_of : Command → Stamp → ℕ
+n_of (command.Put bucket key tags hold class body) stamp = stamp.n
+n_of _ stamp = 0
+
+-- the greatest n that the commands have, 0 where they have none
+abbrev pub clock : Past → ℕ
+clock [] = 0
+clock (d ∷ past) = max (n_of d.command d.stamp) (clock past)

@@ -1,0 +1,17 @@
+//! What is true of every history.
+
+ghost use Rattle.s3r_history.specs.Laws.{RowsAreListed, IdsAreOwn, IdsAreNew, PutIsLatest, NamesAreThose, NoNameTwice};
+
+/// A bucket's rows stand in the listing order, each id is its command's and new, and what was put last is the latest.
+pub fn rows_are_listed()
+    ensures listed { RowsAreListed }
+    ensures own { IdsAreOwn }
+    ensures new { IdsAreNew }
+    ensures put_is_latest { PutIsLatest }
+{}
+
+/// The names that are counted are those of the buckets that are there, each once.
+pub fn buckets_are_counted()
+    ensures those { NamesAreThose }
+    ensures once { NoNameTwice }
+{}

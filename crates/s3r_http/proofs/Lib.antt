@@ -1,0 +1,10 @@
+pub mod Causes
+pub mod Framing
+pub mod Heads
+pub mod LineLists
+pub mod Numbers
+pub mod OneCause
+pub mod Pieces
+pub mod Tokens
+pub mod Unique
+pub mod Whole

@@ -1,0 +1,10 @@
+pub mod Faults
+pub mod Head
+pub mod Input
+pub mod Lengths
+pub mod Lines
+pub mod Parsed
+pub mod Plans
+pub mod Refusals
+pub mod Request
+pub mod Response

@@ -1,0 +1,5 @@
+pub mod Places
+pub mod Earlier
+pub mod Told
+pub mod Steps
+pub mod Known

@@ -1,0 +1,5 @@
+pub mod Contents
+pub mod After
+pub mod Changes
+pub mod Denies
+pub mod Laws

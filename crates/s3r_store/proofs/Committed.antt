@@ -1,0 +1,116 @@
+-- What was written, as a commit behind a history.
+use Rattle.std.proofs.Common.{◌≡◌, ◌⊎◌, ℕ, ◌+◌, ◌≤◌, ◌<◌, Bool, true, false, List, [], ◌∷◌, ◌++◌, length, Option, Some, None, unwrap_or, Err, refl, inl, inr, ⊎_elim, sym, ap, subst, arith}
+use Rattle.s3r_world.specs.Image.{Image, OnVolume, Reached}
+use Rattle.s3r_world.specs.Outside.{Outside}
+use Rattle.s3r_world.specs.Moments.{elapses_none, elapses_weaker, on_weaker}
+use Rattle.s3r_record.specs.declared.command.Command.{Command}
+use Rattle.s3r_record.specs.Spelling.{spelling, frame, IsCommand}
+use Rattle.s3r_journal.specs.Volume.{header, records, StandsTo, Stands, IsEmptyVolume}
+use Rattle.s3r_history.specs.Words.{History}
+use Rattle.s3r_history.specs.Accepts.{refusal, IsLawful}
+use Rattle.s3r_store.specs.Stands.{spelled, StandsFor}
+use Rattle.s3r_store.specs.Writes.{DoesWrite, MayWrite, Written}
+use Rattle.s3r_store.specs.Knows.{IsAtEnd, Knows}
+use Rattle.s3r_journal.specs.declared.writing.AppendFault.{AppendFault}
+use Rattle.s3r_journal.specs.declared.writing.AppendFault.TheVariants as append
+use Rattle.s3r_store.specs.declared.held.Held.{Held}
+use Rattle.s3r_store.specs.Faults.{fault_of_append}
+use Rattle.s3r_store.specs.Commits.{IsEither, IsWith, Commits, HasCommitted, length_with}
+
+-- bytes that stand for these spellings up to this end, or are empty
+abbrev pub AtEnd : ℕ → Option ℕ → List (List ℕ) → List ℕ → Type 0
+AtEnd v None hs bytes = (hs ≡ []) × IsEmptyVolume bytes
+AtEnd v (Some end) hs bytes = StandsTo v hs end bytes
+
+pub at_end_of : (v : ℕ) (end : Option ℕ) (hs : List (List ℕ)) (w : Outside) → IsAtEnd v end hs w → AtEnd v end hs (w.as_read.volume v)
+at_end_of v None hs w at = (at.0, at.1.empty)
+at_end_of v (Some end) hs w at = at.1
+
+pub stable_at : (v : ℕ) (end : Option ℕ) (hs : List (List ℕ)) (w : Outside) → IsAtEnd v end hs w → (c : Image) → w.images c → c.volume v ≡ w.as_read.volume v
+stable_at v None hs w at = at.1.stable
+stable_at v (Some end) hs w at = at.0.stable
+
+-- each image stands for them
+image_at : (v : ℕ) (end : Option ℕ) (hs : List (List ℕ)) (w : Outside) → IsAtEnd v end hs w → (c : Image) → w.images c → AtEnd v end hs (c.volume v)
+image_at v end hs w at c now = subst (AtEnd v end hs) (sym (stable_at v end hs w at c now)) (at_end_of v end hs w at)
+
+pub stands_at : (v : ℕ) (end : Option ℕ) (hs : List (List ℕ)) (bytes : List ℕ) → AtEnd v end hs bytes → Stands v hs bytes
+stands_at v None hs bytes at = inl (at.1, at.0)
+stands_at v (Some end) hs bytes at = inr (end, at)
+
+either : (v : ℕ) (end : Option ℕ) (hs : List (List ℕ)) (s x y : List ℕ) → AtEnd v end hs x → MayWrite v end s x y → Stands v hs y ⊎ Stands v (hs ++ s ∷ []) y
+either v None hs s x y at may = ⊎_elim
+    (λ empty. inl (inl (empty, at.0)))
+    (λ made. ⊎_elim
+    (λ none. inl (inr (16, subst (λ (k : List (List ℕ)). StandsTo v k 16 y) (sym at.0) none)))
+    (λ one. inr (inr (16 + length s + 5, subst (λ (k : List (List ℕ)). StandsTo v (k ++ s ∷ []) (16 + length s + 5) y) (sym at.0) one)))
+    made)
+    (may at.1)
+either v (Some end) hs s x y at may = ⊎_elim (λ still. inl (inr (end, still))) (λ with. inr (inr (end + length s + 5, with))) (may v hs at)
+
+-- where the volume ends then
+with_record : (v : ℕ) (end : Option ℕ) (hs : List (List ℕ)) (s x y : List ℕ) → AtEnd v end hs x → DoesWrite v end s x y → StandsTo v (hs ++ s ∷ []) (unwrap_or end 16 + length s + 5) y
+with_record v None hs s x y at does = subst (λ (k : List (List ℕ)). StandsTo v (k ++ s ∷ []) (16 + length s + 5) y) (sym at.0) (does at.1)
+with_record v (Some end) hs s x y at does = does v hs at
+
+-- the place of the next record
+pub end_is : (v : ℕ) (end : Option ℕ) (hs : List (List ℕ)) (w : Outside) → IsAtEnd v end hs w → length (header v 1 ++ records hs) ≡ unwrap_or end 16
+end_is v None hs w at = ap (λ (k : List (List ℕ)). length (header v 1 ++ records k)) at.0
+end_is v (Some end) hs w at = at.1.place
+
+module _ (v : ℕ) (end : Option ℕ) (h : History) (c : Command) (old new : Outside) (at : IsAtEnd v end (spelled h) old) (lawful : IsLawful h) (fits : IsCommand c) (accepted : refusal h c ≡ None) where
+  on_either : (x y : Image) → AtEnd v end (spelled h) (x.volume v) → OnVolume v (MayWrite v end (spelling c)) x y → OnVolume v (IsEither v h c) x y
+  on_either x y was on = on_weaker v (MayWrite v end (spelling c)) (IsEither v h c) x y
+      (λ may. ⊎_elim (λ still. inl (record { stands = still; lawful = lawful })) (λ with. inr (record { stands = with; lawful = (fits, accepted, lawful) })) (either v end (spelled h) (spelling c) (x.volume v) (y.volume v) was may)) on
+
+  on_with : (x y : Image) → AtEnd v end (spelled h) (x.volume v) → OnVolume v (DoesWrite v end (spelling c)) x y → OnVolume v (IsWith v h c) x y
+  on_with x y was on = on_weaker v (DoesWrite v end (spelling c)) (IsWith v h c) x y
+      (λ does. record { stands = inr (unwrap_or end 16 + length (spelling c) + 5, with_record v end (spelled h) (spelling c) (x.volume v) (y.volume v) was does); lawful = (fits, accepted, lawful) }) on
+
+  pub commits : (ok : Bool) → Written v end (spelling c) ok old new → Commits v h c ok old new
+  commits ok did = record {
+    time = elapses_weaker old new (Reached (OnVolume v (MayWrite v end (spelling c))) old.images) (Reached (OnVolume v (IsEither v h c)) old.images) did.time
+        (λ x (m, was, on). (m, was, on_either m x (image_at v end (spelled h) old at m was) on));
+    images = λ x now. let from = did.images x now in (from.0, from.1, on_either from.0 x (image_at v end (spelled h) old at from.0 from.1) from.2);
+    as_read = on_either old.as_read new.as_read (at_end_of v end (spelled h) old at) did.as_read;
+    done = λ t x now. let from = did.done t x now in (from.0, from.1, on_with from.0 x (image_at v end (spelled h) old at from.0 from.1) from.2);
+    read = λ t. on_with old.as_read new.as_read (at_end_of v end (spelled h) old at) (did.read t);
+    input = did.input;
+  }
+
+  pub end_after : Written v end (spelling c) true old new → IsAtEnd v (Some (unwrap_or end 16 + length (spelling c) + 5)) (spelled (c ∷ h)) new
+  end_after did = (did.ready refl, with_record v end (spelled h) (spelling c) (old.as_read.volume v) (new.as_read.volume v) (at_end_of v end (spelled h) old at) (did.read refl).here)
+
+-- nothing was done to a volume that stands for the history
+pub commits_nothing : (v : ℕ) (end : Option ℕ) (h : History) (c : Command) (w : Outside) → IsAtEnd v end (spelled h) w → IsLawful h → Commits v h c false w w
+commits_nothing v end h c w at lawful = record {
+  time = elapses_none w (Reached (OnVolume v (IsEither v h c)) w.images);
+  images = λ x now. (x, now, record { here = inl (record { stands = stands_at v end (spelled h) (x.volume v) (image_at v end (spelled h) w at x now); lawful = lawful }); elsewhere = λ u ne. refl; output = refl });
+  as_read = record { here = inl (record { stands = stands_at v end (spelled h) (w.as_read.volume v) (at_end_of v end (spelled h) w at); lawful = lawful }); elsewhere = λ u ne. refl; output = refl };
+  done = λ t. cc;
+  read = λ t. cc;
+  input = record { input = refl; connections = refl };
+}
+
+-- each image of a commit that was made may be one of a commit in doubt
+pub in_doubt : (v : ℕ) (h : History) (c : Command) (old new : Outside) → Commits v h c true old new → Commits v h c false old new
+in_doubt v h c old new did = record { time = did.time; images = did.images; as_read = did.as_read; done = λ t. cc; read = λ t. cc; input = did.input }
+
+-- so many bytes the volume would have with the command
+pub length_is : (v : ℕ) (end : Option ℕ) (h : History) (c : Command) (w : Outside) (bytes : List ℕ) → IsAtEnd v end (spelled h) w → bytes ≡ frame (spelling c) → length_with v h c ≡ unwrap_or end 16 + 1 + length bytes
+length_is v end h c w bytes at is = omega (arith, end_is v end (spelled h) w at, ap length is)
+
+-- a frame that wasn't written
+pub commit_failed : (v : ℕ) (h : History) (c : Command) (room : ℕ) (a b : Held) (old new : Outside) (e : AppendFault) (full : Type 0)
+    → refusal h c ≡ None
+    → (e ≡ append.VolumeFull v) ⊎ ((e ≡ append.Volume v) × full)
+    → (e ≡ append.VolumeFull v → room < length_with v h c)
+    → (e ≡ append.Volume v → length_with v h c ≤ room)
+    → Commits v h c false old new
+    → HasCommitted v h c (Err (fault_of_append e)) room a b old new
+commit_failed v h c room a b old new (append.Volume u) full accepted why passes fits did = (accepted, fits (⊎_elim (λ is. absurd cc) (λ is. is.0) why), did)
+commit_failed v h c room a b old new (append.VolumeFull u) full accepted why passes fits did = (accepted, passes (⊎_elim (λ is. is) (λ is. let no : append.VolumeFull u ≡ append.Volume v = is.0 in absurd cc) why))
+
+-- what a store knows of its volume's bytes
+pub stands_for : (v : ℕ) (held : Held) (h : History) (w : Outside) → Knows v held h w → StandsFor v h (w.as_read.volume v)
+stands_for v held h w knows = record { stands = stands_at v held.end (spelled h) (w.as_read.volume v) (at_end_of v held.end (spelled h) w knows.volume); lawful = knows.lawful }

@@ -1,0 +1,6 @@
+pub mod Frames
+pub mod Histories
+pub mod Composed
+pub mod Committed
+pub mod Damaged
+pub mod Left

@@ -1,0 +1,39 @@
+-- A store and the volume that it was read from.
+use Rattle.std.specs.Prelude.{◌≡◌, ℕ, List, [], Option, Some, None, IfSome, IsSomeAnd}
+use Rattle.s3r_world.specs.Outside.{Outside}
+use Rattle.s3r_journal.specs.Volume.{StandsTo}
+use Rattle.s3r_journal.specs.Step.{IsReady, IsVacant}
+use Rattle.s3r_history.specs.Words.{History}
+use Rattle.s3r_history.specs.Accepts.{IsLawful}
+use Rattle.s3r_region.specs.After.{IsAfter}
+use Rattle.s3r_store.specs.declared.held.Held.{Held}
+use Rattle.s3r_store.specs.declared.store.Store.{Store}
+use Rattle.s3r_store.specs.Stands.{spelled}
+
+-- a command may be put at the end, where there is one, or behind a header that is to be made
+abbrev pub CanCommit : ℕ → Option ℕ → Outside → Type 0
+CanCommit v None w = IsVacant v w
+CanCommit v (Some end) w = IsReady v end w
+
+-- besides, the volume stands for commands of these spellings
+abbrev pub IsAtEnd : ℕ → Option ℕ → List (List ℕ) → Outside → Type 0
+IsAtEnd v None spellings w = (spellings ≡ []) × IsVacant v w
+IsAtEnd v (Some end) spellings w = IsReady v end w × StandsTo v spellings end (w.as_read.volume v)
+
+-- The state is after a lawful history, for which the volume stands, with this end, in each image.
+pub record Knows (v : ℕ) (held : Held) (h : History) (w : Outside) : Type 0 where
+  pub after : IsAfter held.state h
+  pub region : held.state.region ≡ v
+  pub lawful : IsLawful h
+  pub volume : IsAtEnd v held.end (spelled h) w
+
+abbrev pub IsKnown : ℕ → Held → Outside → Type 0
+IsKnown v held w = (h : History) × Knows v held h w
+
+-- the store was read, and its history is this one
+abbrev pub Holds : Store → History → Outside → Type 0
+Holds store h w = IsSomeAnd store.held (λ held. Knows store.v held h w)
+
+-- where the store was read, it has the history of its volume
+abbrev pub Ties : Store → Outside → Type 0
+Ties store w = IfSome store.held (λ held. IsKnown store.v held w)

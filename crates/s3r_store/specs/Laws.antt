@@ -1,0 +1,8 @@
+-- The law of what bytes stand for.
+use Rattle.std.specs.Prelude.{◌≡◌, ℕ, List}
+use Rattle.s3r_history.specs.Words.{History}
+use Rattle.s3r_store.specs.Stands.{StandsFor}
+
+-- no bytes stand for two lawful histories
+abbrev pub OneLawfulHistory : Type 0
+OneLawfulHistory = (region : ℕ) (bytes : List ℕ) (h k : History) → StandsFor region h bytes → StandsFor region k bytes → h ≡ k

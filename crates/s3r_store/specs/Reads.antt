@@ -1,0 +1,46 @@
+-- What reading a volume tells.
+use Rattle.std.specs.Prelude.{◌≡◌, ℕ, List, ◌∷◌, None, Result, Ok, Err}
+use Rattle.s3r_world.specs.Outside.{Counts, Rises}
+use Rattle.s3r_record.specs.declared.command.Command.{Command}
+use Rattle.s3r_record.specs.Spelling.{spelling, IsCommand}
+use Rattle.s3r_history.specs.Words.{History}
+use Rattle.s3r_history.specs.Accepts.{refusal}
+use Rattle.s3r_region.specs.Contents.{Contents}
+use Rattle.s3r_region.specs.After.{IsAfter}
+use Rattle.s3r_store.specs.declared.fault.StoreFault.{StoreFault}
+use Rattle.s3r_store.specs.declared.fault.StoreFault.TheVariants as faults
+use Rattle.s3r_store.specs.Stands.{StandsFor, DamagedAt}
+
+-- one command more was taken in
+pub record TakesOne (s : List ℕ) (h : History) (new : Contents) : Type 0 where
+  pub command : Command
+  pub fits : IsCommand command
+  pub spelled : s ≡ spelling command
+  pub accepted : refusal h command ≡ None
+  pub after : IsAfter new (command ∷ h)
+
+-- the command that is spelled so was taken in, or there is none that the history accepts
+abbrev pub TakesIn : {A : Type 0} → ℕ → ℕ → List ℕ → Result A StoreFault → Contents → Contents → Type 0
+TakesIn v at s (Ok x) old new = ((h : History) → IsAfter old h → TakesOne s h new) × (new.region ≡ old.region) × (new.regions ≡ old.regions)
+TakesIn v at s (Err (faults.Refused f)) old new = ⊥
+TakesIn v at s (Err (faults.Full u)) old new = ⊥
+TakesIn v at s (Err (faults.Volume u)) old new = ⊥
+TakesIn v at s (Err (faults.Damaged u offset)) old new =
+    (u ≡ v) × (offset ≡ at) × ((h : History) → IsAfter old h → (c : Command) → IsCommand c → s ≡ spelling c → refusal h c ≡ None → ⊥)
+TakesIn v at s (Err faults.OutOfMemory) old new = Unit {0}
+
+-- damage is told where it is, and the bytes stand for no lawful history then
+abbrev pub IsDamage : ℕ → List ℕ → StoreFault → Type 0
+IsDamage v bytes (faults.Refused f) = Unit {0}
+IsDamage v bytes (faults.Full u) = Unit {0}
+IsDamage v bytes (faults.Volume u) = Unit {0}
+IsDamage v bytes (faults.Damaged u offset) = DamagedAt v offset bytes × ((k : History) → StandsFor v k bytes → ⊥)
+IsDamage v bytes faults.OutOfMemory = Unit {0}
+
+-- why a volume wasn't read
+abbrev pub HasCause : ℕ → StoreFault → Counts → Counts → Type 0
+HasCause v (faults.Refused f) old new = ⊥
+HasCause v (faults.Full u) old new = ⊥
+HasCause v (faults.Volume u) old new = (u ≡ v) × Rises 1 (old.volume v) (new.volume v)
+HasCause v (faults.Damaged u offset) old new = u ≡ v
+HasCause v faults.OutOfMemory old new = Unit {0}

@@ -1,0 +1,34 @@
+-- What the bytes of a region's volume stand for.
+use Rattle.std.specs.Prelude.{◌≡◌, ℕ, List, [], ◌∷◌, ◌++◌}
+use Rattle.s3r_record.specs.Spelling.{spelling, IsCommand}
+use Rattle.s3r_record.specs.declared.command.Command.{Command}
+use Rattle.s3r_journal.specs.Volume.{Stands}
+use Rattle.s3r_journal.specs.Scan.{Finding, no_header, damaged_at, end_at, one_record, finding, IsReadTo}
+use Rattle.s3r_history.specs.Words.{History}
+use Rattle.s3r_history.specs.Accepts.{refusal, IsLawful}
+use Rattle.std.specs.Prelude.{None}
+
+-- the spellings of a history's commands, the first first
+abbrev pub spelled : History → List (List ℕ)
+spelled [] = []
+spelled (c ∷ h) = spelled h ++ spelling c ∷ []
+
+-- the bytes stand for this history, which is lawful
+pub record StandsFor (region : ℕ) (h : History) (bytes : List ℕ) : Type 0 where
+  pub stands : Stands region (spelled h) bytes
+  pub lawful : IsLawful h
+
+-- what is found at a place behind a history is damaged, at this offset, or is no command that the history accepts
+abbrev pub IsWrong : History → ℕ → ℕ → Finding → Type 0
+IsWrong h at offset no_header = ⊥
+IsWrong h at offset (damaged_at place) = offset ≡ place
+IsWrong h at offset (end_at gate) = ⊥
+IsWrong h at offset (one_record s next) = (offset ≡ at) × ((c : Command) → IsCommand c → s ≡ spelling c → refusal h c ≡ None → ⊥)
+
+-- The volume is read up to a place as a lawful history, and is wrong there.
+pub record DamagedAt (region offset : ℕ) (bytes : List ℕ) : Type 0 where
+  pub h : History
+  pub at : ℕ
+  pub lawful : IsLawful h
+  pub read : IsReadTo region (spelled h) at bytes
+  pub wrong : IsWrong h at offset (finding region at bytes)

@@ -1,0 +1,34 @@
+-- What a store shows, and what a commit does to it.
+use Rattle.std.specs.Prelude.{◌≡◌, ℕ, ◌+◌, ◌<◌, ◌≤◌, true, false, ◌∷◌, length, Option, Some, None, Result, Ok, Err, unwrap_or}
+use Rattle.std.specs.Option.{option_map}
+use Rattle.s3r_world.specs.Outside.{Outside}
+use Rattle.s3r_record.specs.declared.command.Command.{Command}
+use Rattle.s3r_history.specs.Words.{History}
+use Rattle.s3r_history.specs.Accepts.{refusal}
+use Rattle.s3r_region.specs.Contents.{Contents}
+use Rattle.s3r_store.specs.declared.fault.StoreFault.{StoreFault}
+use Rattle.s3r_store.specs.declared.fault.StoreFault.TheVariants as faults
+use Rattle.s3r_store.specs.declared.held.Held.{Held}
+use Rattle.s3r_store.specs.declared.store.Store.{Store}
+use Rattle.s3r_store.specs.Knows.{Holds}
+use Rattle.s3r_store.specs.Commits.{Commits, length_with}
+
+abbrev pub state_of : Store → Option Contents
+state_of store = option_map (λ (held : Held). held.state) store.held
+
+abbrev pub end_in : Option Held → ℕ
+end_in None = 0
+end_in (Some held) = unwrap_or held.end 0
+
+abbrev pub end_of : Store → ℕ
+end_of store = end_in store.held
+
+-- what a commit behind this history came to
+abbrev pub StoreCommits : ℕ → History → Command → Result ℕ StoreFault → ℕ → Store → Store → Outside → Outside → Type 0
+StoreCommits v h c (Ok index) room a b old new =
+    (index ≡ length h + 1) × (refusal h c ≡ None) × (length_with v h c ≤ room) × Holds b (c ∷ h) new × Commits v h c true old new
+StoreCommits v h c (Err (faults.Refused f)) room a b old new = refusal h c ≡ Some f
+StoreCommits v h c (Err (faults.Full u)) room a b old new = (refusal h c ≡ None) × (room < length_with v h c)
+StoreCommits v h c (Err (faults.Volume u)) room a b old new = (refusal h c ≡ None) × (length_with v h c ≤ room) × (b.held ≡ None) × Commits v h c false old new
+StoreCommits v h c (Err (faults.Damaged u offset)) room a b old new = ⊥
+StoreCommits v h c (Err faults.OutOfMemory) room a b old new = (refusal h c ≡ None) × (b.held ≡ None) × Commits v h c false old new

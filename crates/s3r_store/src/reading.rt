@@ -1,0 +1,92 @@
+//! A volume, read from its first record on.
+ghost use Rattle.std.specs.Prelude.{◌≡◌, ◌+◌, ◌≤◌, ◌<◌, ◌^◌, IsTrue, IfErr, IfOk, unwrap_or, length};
+ghost use Rattle.s3r_world.specs.Outside.{KeepsShape, NoneFalls, Looks};
+ghost use Rattle.s3r_history.specs.Words.{History};
+ghost use Rattle.s3r_store.specs.Knows.{IsKnown};
+ghost use Rattle.s3r_store.specs.Reads.{TakesIn, IsDamage, HasCause};
+
+use crate::{Held, StoreFault};
+use s3r_journal::{Scanned, scan};
+use s3r_record::{RecordFault, decode};
+use s3r_region::{Deny, State};
+use s3r_world::World;
+use std::alloc::Global;
+
+// The place of the first record.
+const FIRST: u64 = 16;
+
+// Takes in the command of the record at this place: `Damaged` is where the record begins, and is told of bytes that
+// spell no command and of a command that the history refuses. After a fault the state is given up.
+fn take_in(
+    alloc: Global,
+    state: &mut State,
+    v: u32,
+    offset: u64,
+    spelling: &[u8],
+) -> Result<(), StoreFault>
+    requires few { state.old.commands + 1 < 2 ^ 64 }
+    requires short { length spelling.now ≤ 16777216 }
+    ensures told { TakesIn v offset spelling.now result state.old state.new }
+{
+    let command = match decode(alloc, spelling) {
+        Ok(command) => command,
+        Err(RecordFault::NotACommand(_)) => return Err(StoreFault::Damaged { v, offset }),
+        Err(RecordFault::OutOfMemory) => return Err(StoreFault::OutOfMemory),
+    };
+    match state.accepts(&command) {
+        Ok(()) => {
+            state.apply(alloc, command)?;
+            Ok(())
+        }
+        Err(deny) => {
+            drop(command);
+            match deny {
+                Deny::Refused(_) => Err(StoreFault::Damaged { v, offset }),
+                Deny::OutOfMemory => Err(StoreFault::OutOfMemory),
+            }
+        }
+    }
+}
+
+/// Reads a region's volume: the state after the history for which it stands, and where that ends.
+///
+/// `Volume` tells a call that failed, `Damaged` where it stands for no lawful history, and `OutOfMemory` want of memory.
+/// The volume stays as it is.
+pub fn read_volume<W: World>(
+    alloc: Global,
+    world: &mut W,
+    v: u32,
+    regions: u32,
+) -> Result<Held, StoreFault>
+    requires volume { v < (W.shape world.old).volumes }
+    requires region { v ≤ 7 }
+    ensures told { IsTrue W.tells → Looks (W.outside world.old) (W.outside world.new) }
+    ensures known { IsTrue W.tells → IfOk result (λ held. IsKnown v held (W.outside world.new)) }
+    ensures few { IfOk result (λ held. held.state.commands + 16 ≤ unwrap_or held.end 16) }
+    ensures damage { IsTrue W.tells → IfErr result (IsDamage v ((W.outside world.old).as_read.volume v)) }
+    ensures cause { IfErr result (λ e. HasCause v e (W.faults world.old) (W.faults world.new)) }
+    ensures counts { NoneFalls (W.faults world.old) (W.faults world.new) }
+    ensures goes { W.goes world.old world.new }
+    ensures shape { KeepsShape (W.shape world.old) (W.shape world.new) }
+{
+    let mut state = State::new(alloc, v as u8, regions);
+    let mut from = FIRST;
+    'records: loop {
+        match scan(world, alloc, v, v as u8, from)? {
+            Scanned::Empty => {
+                return Ok(Held {
+                    state: State::new(alloc, v as u8, regions),
+                    end: None,
+                });
+            }
+            Scanned::End(at) => return Ok(Held {
+                state,
+                end: Some(at),
+            }),
+            Scanned::Record { bytes, next } => {
+                take_in(alloc, &mut state, v, from, &bytes)?;
+                from = next;
+            }
+        }
+    }
+}

@@ -1,0 +1,4 @@
+pub mod ListingOrder
+pub mod Latest
+pub mod Adding
+pub mod VersionExamples
