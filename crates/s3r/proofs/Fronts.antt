@@ -1,10 +1,10 @@
 -- One call more.
-use Rattle.std.proofs.Common.{◌≡◌, ◌⊎◌, ℕ, ◌+◌, ◌≤◌, Result, List, ◌++◌, length, take, drop, refl, inl, inr, ⊎_elim, sym, ◌∙◌, ap, subst, arith, append_assoc}
+use Rattle.std.proofs.Common.{◌≡◌, ℕ, ◌+◌, Result, List, ◌++◌, take, drop, refl, sym, ◌∙◌, ap, arith, append_assoc}
 use Rattle.std.proofs.Math.Seq.{take-add}
 use Rattle.std.proofs.lemmas.List.{append-nil}
 use Rattle.s3r_world.specs.declared.world.OutputFault.{OutputFault}
-use Rattle.s3r_world.specs.Image.{Image, Puts, Reached, Follows}
-use Rattle.s3r_world.specs.Outside.{Outside, Elapses, Emits}
+use Rattle.s3r_world.specs.Image.{Image, Puts}
+use Rattle.s3r_world.specs.Outside.{Outside, Emits}
 use Rattle.s3r_world.specs.Moments.{elapses_none, elapses_then, elapses_weaker, keeps_then}
 use Rattle.s3r.specs.Sends.{Sends}
 

@@ -1,13 +1,12 @@
 -- Events that come to pass one after another.
-use Rattle.std.proofs.Common.{◌≡◌, ◌⊎◌, ℕ, ◌+◌, ◌-◌, ◌<◌, ◌≤◌, List, [], ◌∷◌, ◌++◌, length, take, drop, refl, sym, ◌∙◌, ap, subst, inl, inr, ⊎_elim, append_assoc, arith}
+use Rattle.std.proofs.Common.{◌≡◌, ℕ, ◌+◌, ◌-◌, ◌≤◌, List, [], ◌∷◌, ◌++◌, take, drop, refl, sym, ◌∙◌, ap, subst, inl, inr, ⊎_elim, append_assoc, arith}
 use Rattle.std.proofs.Math.Seq.{take-add}
 use Rattle.std.proofs.lemmas.List.{append-nil, drop-take}
-use Rattle.s3r_world.specs.Image.{Image, Puts, Reached}
-use Rattle.s3r_world.specs.Outside.{Outside, Elapses, KeepsVolumes}
+use Rattle.s3r_world.specs.Image.{Image, Puts}
+use Rattle.s3r_world.specs.Outside.{Outside, KeepsVolumes}
 use Rattle.s3r_world.specs.Moments.{elapses_none, elapses_then, elapses_weaker}
-use Rattle.s3r_history.specs.Words.{History}
 use Rattle.s3r_store.specs.Stands.{StandsFor}
-use Rattle.s3r_desk.specs.Events.{Event, found, began, answered, Events}
+use Rattle.s3r_desk.specs.Events.{found, began, answered, Events}
 use Rattle.s3r_desk.specs.Progress.{Progress, Happens, IsWithin}
 use Rattle.s3r_desk.proofs.Knowing.{leads_then}
 use Rattle.s3r.specs.Passing.{output_of, Brings, IsFront, AtMoment, Passes}

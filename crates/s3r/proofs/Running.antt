@@ -1,22 +1,20 @@
 -- A run, request by request.
-use Rattle.std.proofs.Common.{◌≡◌, ◌≢◌, ◌⊎◌, ℕ, ◌+◌, ◌<◌, ◌≤◌, List, [], ◌∷◌, ◌++◌, length, Option, Some, None, IfSome, Result, Ok, Err, refl, sym, ◌∙◌, ap, subst, inl, inr, ⊎_elim, append_assoc, arith}
-use Rattle.std.proofs.lemmas.List.{append-nil}
-use Rattle.s3r_world.specs.Image.{Image}
+use Rattle.std.proofs.Common.{◌≡◌, ◌⊎◌, ℕ, ◌<◌, List, [], ◌∷◌, ◌++◌, length, Option, Some, None, IfSome, Result, Ok, Err, refl, sym, ◌∙◌, ap, subst, ⊎_elim, append_assoc, arith}
 use Rattle.s3r_world.specs.Outside.{Outside, Counts, NoneFalls, Rises, KeepsVolumes}
-use Rattle.s3r_world.specs.Moments.{rises_before, rises_then}
+use Rattle.s3r_world.specs.Moments.{rises_then}
 use Rattle.s3r_store.specs.declared.store.Store.{Store}
-use Rattle.s3r_desk.specs.Events.{Event, answered, Events}
+use Rattle.s3r_desk.specs.Events.{answered, Events}
 use Rattle.s3r_desk.specs.Keeping.{Keeps, IsFresh, IsHeld}
 use Rattle.s3r_store.specs.declared.held.Held.{Held}
 use Rattle.s3r.specs.declared.stop.Ending.{Ending}
 use Rattle.s3r.specs.declared.stop.Stop.{Stop}
 use Rattle.s3r.specs.declared.stop.Stop.TheVariants as stop
-use Rattle.s3r.specs.Passing.{Brings, Passes}
-use Rattle.s3r.specs.Turns.{Turn, IsAnswered, IsRight, GoesOn, events_of, input_of, AreTurns, fails_at, failures, events_in, text_in, failures_in}
+use Rattle.s3r.specs.Passing.{Passes}
+use Rattle.s3r.specs.Turns.{Turn, IsAnswered, IsRight, events_of, input_of, fails_at, failures, events_in, text_in, failures_in}
 use Rattle.s3r_http.specs.declared.message.HttpFault.{HttpFault}
 use Rattle.s3r_http.specs.declared.message.HttpFault.TheVariants as http
 use Rattle.s3r.specs.Served.{IsEnd, Served, stop_of}
-use Rattle.s3r.specs.Serving.{EndsOne, Serves, IsServing, Limits}
+use Rattle.s3r.specs.Serving.{Serves, IsServing, Limits}
 use Rattle.s3r.proofs.Passing.{passes_none, passes_then, keeps_all}
 
 -- before the first request

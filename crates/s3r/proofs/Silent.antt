@@ -1,11 +1,11 @@
 -- The desk puts nothing out.
-use Rattle.std.proofs.Common.{◌≡◌, ◌⊎◌, ℕ, List, [], ◌∷◌, ◌++◌, Result, Ok, Err, refl, sym, ◌∙◌, ap, ⊎_elim}
+use Rattle.std.proofs.Common.{◌≡◌, ℕ, List, [], ◌∷◌, ◌++◌, Result, Ok, Err, refl, ◌∙◌, ap, ⊎_elim}
 use Rattle.s3r_history.specs.Words.{History}
 use Rattle.s3r_desk.specs.declared.fault.DeskFault.{DeskFault}
 use Rattle.s3r_desk.specs.declared.fault.DeskFault.TheVariants as faults
 use Rattle.s3r_desk.specs.declared.request.Request.{Request}
 use Rattle.s3r_desk.specs.declared.request.Answer.{Answer}
-use Rattle.s3r_desk.specs.Events.{Event, found, began, answered, Events, history_at}
+use Rattle.s3r_desk.specs.Events.{found, began, answered, Events, history_at}
 use Rattle.s3r_desk.specs.Steps.{Commit, Histories, made, after_commit, step}
 use Rattle.s3r_desk.specs.Responds.{AreTouched, Comes, IsBegun, IsTurn}
 use Rattle.s3r.specs.Passing.{output_of}

@@ -1,22 +1,20 @@
 -- One request, from its step to the last byte of its answer.
-use Rattle.std.proofs.Common.{◌≡◌, ◌⊎◌, ℕ, ◌+◌, ◌<◌, ◌≤◌, Bool, true, false, cond, eqb, List, [], ◌∷◌, ◌++◌, length, take, drop, Option, Some, None, IfSome, Result, Ok, Err, IfOk, OnOk, Vec, refl, sym, ◌∙◌, ap, subst, inl, inr, ⊎_elim, arith}
+use Rattle.std.proofs.Common.{◌≡◌, ◌⊎◌, ℕ, ◌≤◌, Bool, true, false, cond, eqb, List, [], ◌∷◌, ◌++◌, length, take, drop, Option, Some, None, Result, Ok, Err, IfOk, OnOk, Vec, refl, sym, ◌∙◌, ap, subst, inl, inr, ⊎_elim, arith}
 use Rattle.std.proofs.lemmas.Bool.{eqb-true}
 use Rattle.std.specs.declared.alloc.Global.{Global}
 use Rattle.std.specs.declared.alloc.AllocError.{AllocError}
 use Rattle.std.proofs.lemmas.List.{append-nil, take-append-drop}
 use Rattle.s3r_world.specs.Image.{Image}
-use Rattle.s3r_world.specs.Outside.{Outside, Counts, NoneFalls, Rises, KeepsInput, KeepsVolumes}
+use Rattle.s3r_world.specs.Outside.{Outside, Counts, NoneFalls, Rises, KeepsVolumes}
 use Rattle.s3r_world.specs.Moments.{keeps_then, rises_before, rises_after}
-use Rattle.s3r_journal.specs.Leaves.{Leaves}
 use Rattle.s3r_journal.proofs.Elsewhere.{left_keeps}
 use Rattle.s3r_store.specs.declared.held.Held.{Held}
 use Rattle.s3r_store.specs.declared.store.Store.{Store}
-use Rattle.s3r_store.specs.Stands.{StandsFor}
 use Rattle.s3r_desk.specs.declared.fault.DeskFault.{DeskFault}
 use Rattle.s3r_desk.specs.declared.fault.DeskFault.TheVariants as faults
 use Rattle.s3r_desk.specs.declared.request.Request.{Request}
 use Rattle.s3r_desk.specs.declared.request.Answer.{Answer}
-use Rattle.s3r_desk.specs.Events.{Event, answered, Events}
+use Rattle.s3r_desk.specs.Events.{answered, Events}
 use Rattle.s3r_desk.specs.Keeping.{IsHeld, Keeps}
 use Rattle.s3r_desk.specs.Responds.{Responds, HasCause, AsRead}
 use Rattle.s3r_desk.proofs.Keeps.{keeps_left}
@@ -34,8 +32,8 @@ use Rattle.s3r.specs.declared.stop.Ending.TheVariants.{Over, Refused}
 use Rattle.s3r.specs.declared.stop.Stop.{Stop}
 use Rattle.s3r.specs.declared.stop.Stop.TheVariants as stop
 use Rattle.s3r.specs.Sends.{Sends}
-use Rattle.s3r.specs.Passing.{output_of, Passes}
-use Rattle.s3r.specs.Turns.{Outcome, Turn, answer_to, IsStepOf, IsAnswered, fails_at, events_in, failures_in}
+use Rattle.s3r.specs.Passing.{Passes}
+use Rattle.s3r.specs.Turns.{Turn, answer_to, IsStepOf, IsAnswered, fails_at, events_in}
 use Rattle.s3r.specs.Served.{stop_of, IsRefused, IsIncomplete}
 use Rattle.s3r.specs.Serving.{Says, Replies, AnswersOne, EndsOne, Serves}
 use Rattle.s3r.proofs.Fronts.{sends_none}

@@ -2,7 +2,7 @@
 use Rattle.std.specs.Prelude.{◌≡◌, ◌⊎◌, ℕ, ◌<◌, List, [], ◌∷◌, ◌++◌}
 use Rattle.s3r_world.specs.Image.{Image, Reached, Follows}
 use Rattle.s3r_world.specs.Outside.{Outside, Elapses}
-use Rattle.s3r_desk.specs.Events.{Event, found, began, answered, Events}
+use Rattle.s3r_desk.specs.Events.{found, began, answered, Events}
 use Rattle.s3r_desk.specs.Progress.{Advances}
 
 -- what the events put out

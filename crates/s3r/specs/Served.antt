@@ -1,12 +1,11 @@
 -- What a run has done, by how it ended.
-use Rattle.std.specs.Prelude.{◌≡◌, ◌≢◌, ◌⊎◌, ◌==◌, ℕ, ◌+◌, ◌<◌, ◌≤◌, true, false, List, [], ◌∷◌, ◌++◌, length, Option, Some, None, IfSome, IsSome, Result, Ok, Err, OnOk, IsTrue}
+use Rattle.std.specs.Prelude.{◌≡◌, ◌≢◌, ◌⊎◌, ◌==◌, ℕ, ◌+◌, ◌<◌, ◌≤◌, true, false, List, [], ◌∷◌, ◌++◌, length, Option, Some, None, IfSome, IsSome, Result, Ok, Err, IsTrue}
 use Rattle.std.specs.List.{list_any}
 use Rattle.s3r_world.specs.Image.{Image}
 use Rattle.s3r_world.specs.Outside.{Outside, Elapses, Counts, Rises}
 use Rattle.s3r_store.specs.Stands.{StandsFor}
 use Rattle.s3r_history.specs.Words.{History}
 use Rattle.s3r_desk.specs.Events.{Events, answered}
-use Rattle.s3r_desk.specs.Keeping.{Keeps}
 use Rattle.s3r_http.specs.declared.message.HttpFault.{HttpFault}
 use Rattle.s3r_http.specs.declared.message.HttpFault.TheVariants as http
 use Rattle.s3r_http.specs.declared.message.RawRequest.{RawRequest}
@@ -14,14 +13,13 @@ use Rattle.s3r_http.specs.Request.{SpellsRequest, BeginsNone}
 use Rattle.s3r_http.specs.Refusals.{IsCause}
 use Rattle.s3r_api.specs.declared.problem.Problem.{Problem}
 use Rattle.s3r_api.specs.Problems.{problem_of}
-use Rattle.s3r_api.specs.Request.{request_of}
 use Rattle.s3r_api.specs.Texts.{problem_text}
 use Rattle.s3r.specs.declared.stop.Ending.{Ending}
 use Rattle.s3r.specs.declared.stop.Ending.TheVariants.{Over, Refused, Limit}
 use Rattle.s3r.specs.declared.stop.Stop.{Stop}
 use Rattle.s3r.specs.declared.stop.Stop.TheVariants.{Input, Output, OutOfMemory}
-use Rattle.s3r.specs.Passing.{output_of, Brings, Passes}
-use Rattle.s3r.specs.Turns.{Outcome, Turn, answer_to, IsStepOf, IsAnswered, IsRight, GoesOn, events_of, input_of, AreTurns, fails_at, failures, events_in, text_in, failures_in}
+use Rattle.s3r.specs.Passing.{output_of, Passes}
+use Rattle.s3r.specs.Turns.{Turn, answer_to, IsRight, events_of, input_of, AreTurns, failures, events_in, text_in, failures_in}
 
 abbrev pub status_of_ending : Ending → ℕ
 status_of_ending Over = 0

@@ -1,5 +1,5 @@
 -- Requests, and what each came to.
-use Rattle.std.specs.Prelude.{◌≡◌, ℕ, ◌+◌, ◌==◌, false, List, [], ◌∷◌, ◌++◌, Option, Some, None, IfSome, Result, Ok, Err, if◌then◌else◌}
+use Rattle.std.specs.Prelude.{◌≡◌, ℕ, ◌+◌, ◌==◌, false, List, [], ◌∷◌, ◌++◌, Option, Some, None, Result, Ok, Err, if◌then◌else◌}
 use Rattle.s3r_world.specs.Image.{Image}
 use Rattle.s3r_store.specs.Stands.{StandsFor}
 use Rattle.s3r_desk.specs.declared.fault.DeskFault.{DeskFault}

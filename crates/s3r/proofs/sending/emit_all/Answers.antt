@@ -1,4 +1,4 @@
-use Rattle.std.proofs.Common.{◌≡◌, ◌≤◌, ◌+◌, ℕ, length, drop, sym, subst, arith, length-drop}
+use Rattle.std.proofs.Common.{◌+◌, ℕ, sym, subst, arith, length-drop}
 use Rattle.std.proofs.lemmas.List.{take_all}
 use Rattle.s3r_world.specs.Moments.{shape_then, falls_then}
 use Rattle.s3r.specs.Sends.{Sends}

@@ -1,4 +1,4 @@
-use Rattle.std.proofs.Common.{◌≡◌, Bool, ℕ, List, length, Result, Ok, Err, IfOk, sym, ◌∙◌, ap, subst}
+use Rattle.std.proofs.Common.{◌≡◌, Bool, IfOk, subst}
 use Rattle.s3r_api.specs.Texts.{answer_text, problem_text}
 use Rattle.s3r.proofs.Telling.{replies_step, replies_problem}
 use Rattle.s3r.proofs.serve.reply_to.Goals as goal

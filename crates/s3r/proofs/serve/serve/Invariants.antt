@@ -1,4 +1,4 @@
-use Rattle.std.proofs.Common.{◌≡◌, ◌++◌, ℕ, List, IsTrue, length}
+use Rattle.std.proofs.Common.{◌≡◌, ◌++◌, List, IsTrue, length}
 use Rattle.s3r_world.specs.Outside.{KeepsShape, NoneFalls}
 use Rattle.s3r_desk.specs.Keeping.{AreNumbered, AreTied}
 use Rattle.s3r.specs.Turns.{Turn}

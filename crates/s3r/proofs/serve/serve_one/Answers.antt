@@ -1,4 +1,4 @@
-use Rattle.std.proofs.Common.{◌≡◌, ◌≤◌, ◌++◌, ℕ, Bool, false, true, List, [], ◌∷◌, length, Option, Some, None, IfSome, Result, Ok, Err, refl, inl, sym, ◌∙◌, ap, subst, arith}
+use Rattle.std.proofs.Common.{◌≡◌, ◌≤◌, ◌++◌, ℕ, false, true, List, length, Option, Some, IfSome, Ok, Err, refl, inl, sym, ◌∙◌, ap, subst, arith}
 use Rattle.std.proofs.lemmas.Result.{err_from_is_err_and}
 use Rattle.s3r_world.specs.Moments.{falls_then}
 use Rattle.s3r_journal.proofs.Elsewhere.{left_keeps}
