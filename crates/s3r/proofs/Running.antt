@@ -90,7 +90,7 @@ module _ (n : ℕ) (room : ℕ → ℕ) (turns : List Turn) (stream rest left : 
 pub limits_fault : (fault : HttpFault) (s : Stop) → s ≡ stop_of fault → (fault ≡ http.Input) ⊎ (fault ≡ http.OutOfMemory) → (rest left : List ℕ) → Limits (Err s) rest left
 limits_fault fault s is which rest left = ⊎_elim
     (λ e. subst (λ (x : Stop). Limits (Err x) rest left) (sym (is ∙ ap stop_of e)) (omega arith, refl, refl, λ lt. absurd (omega (arith, lt))))
-    (λ e. subst (λ (x : Stop). Limits (Err x) rest left) (sym (is ∙ ap stop_of e)) (omega arith, refl))
+    (λ e. subst (λ (x : Stop). Limits (Err x) rest left) (sym (is ∙ ap stop_of e)) (omega arith, refl, tt))
     which
 
 -- there was no memory for the regions
@@ -104,7 +104,7 @@ served_none n room w a = record {
   is_right = tt;
   input = refl;
   passes = passes_none n w w (keeps_all w);
-  ends = (omega arith, refl);
+  ends = (omega arith, refl, tt);
   faults = λ v. omega arith;
 }
 

@@ -42,10 +42,6 @@ use Rattle.s3r.proofs.Silent.{turn_silent}
 
 -- ---- a text, put out
 
-pub drop_all : (l : List ℕ) → drop (length l) l ≡ []
-drop_all [] = refl
-drop_all (x ∷ l) = drop_all l
-
 pub says_none : (text : List ℕ) (w : Outside) → Says text (Err stop.OutOfMemory) w w
 says_none text w = record {
   sent = [];
@@ -139,6 +135,7 @@ module _ (n : ℕ) (room : ℕ → ℕ) (before : Events) (raw : RawRequest) (re
     is = did.is;
     front = says.front;
     whole = says.whole;
+    unsaid = says.unsaid;
     passes = passes_then n did.step (answered says.sent ∷ []) old mid new did.passes (says.passes n);
     keeps = keeps_answered says.sent (did.step ++ before) stores new (keeps_left (did.step ++ before) stores mid new says.left did.keeps);
     input = keeps_then old mid new did.input says.input;
@@ -214,10 +211,10 @@ module _ (t : Turn) (more rest left : List ℕ) (front : answer_to t.raw t.outco
   ends_answered true is o e = subst (λ (x : Option Ending). EndsOne (Ok x) (Some t) [] rest left) (sym e) (λ count lt. (refl, inr (lt, t, refl, all_sent, is)))
   ends_answered false is o e = subst (λ (x : Option Ending). EndsOne (Ok x) (Some t) [] rest left) (sym e) (refl, t, refl, (all_sent, is))
 
-pub ends_cut : (s : Stop) → (s ≡ stop.Output) ⊎ (s ≡ stop.OutOfMemory) → (t : Turn) (rest left : List ℕ) → EndsOne (Err s) (Some t) [] rest left
-ends_cut s which t rest left = ⊎_elim
+pub ends_cut : (s : Stop) → (s ≡ stop.Output) ⊎ (s ≡ stop.OutOfMemory) → (t : Turn) → (s ≡ stop.OutOfMemory → t.sent ≡ []) → (rest left : List ℕ) → EndsOne (Err s) (Some t) [] rest left
+ends_cut s which t unsaid rest left = ⊎_elim
     (λ e. subst (λ (x : Stop). EndsOne (Err x) (Some t) [] rest left) (sym e) (λ count lt. (lt, inl (refl, refl))))
-    (λ e. subst (λ (x : Stop). EndsOne (Err x) (Some t) [] rest left) (sym e) (λ count lt. (omega (arith, lt), refl)))
+    (λ e. subst (λ (x : Stop). EndsOne (Err x) (Some t) [] rest left) (sym e) (λ count lt. (omega (arith, lt), refl, unsaid e)))
     which
 
 -- a refusal is answered by one text
@@ -246,14 +243,14 @@ ends_refused fault problem stream rest left a b named cause which same says coun
 pub ends_refusal_cut : (s : Stop) → (s ≡ stop.Output) ⊎ (s ≡ stop.OutOfMemory) → (text rest left : List ℕ) (a b : Outside) (says : Says text (Err s) a b) → IsRefused rest (answered says.sent ∷ []) → EndsOne (Err s) None (answered says.sent ∷ []) rest left
 ends_refusal_cut s which text rest left a b says refused = ⊎_elim
     (λ e. subst (λ (x : Stop). EndsOne (Err x) None (answered says.sent ∷ []) rest left) (sym e) (λ count lt. (lt, inr (refl, refused))))
-    (λ e. subst (λ (x : Stop). EndsOne (Err x) None (answered says.sent ∷ []) rest left) (sym e) (λ count lt. (omega (arith, lt), says.unsaid (ap (λ (x : Stop). Err x) e))))
+    (λ e. subst (λ (x : Stop). EndsOne (Err x) None (answered says.sent ∷ []) rest left) (sym e) (λ count lt. (omega (arith, lt), says.unsaid (ap (λ (x : Stop). Err x) e), tt)))
     which
 
 -- nothing is read on, where nothing is wrong with the bytes
 pub ends_unread : (fault : HttpFault) (s : Stop) (taken left : List ℕ) → problem_of fault ≡ None → s ≡ stop_of fault → (fault ≡ http.Input → IsIncomplete taken) → EndsOne (Err s) None [] (taken ++ left) left
 ends_unread http.Input s taken left none is incomplete =
     subst (λ (x : Stop). EndsOne (Err x) None [] (taken ++ left) left) (sym is) (λ count lt. (omega (arith, lt), refl, refl, λ few. (taken, refl, incomplete refl)))
-ends_unread http.OutOfMemory s taken left none is incomplete = subst (λ (x : Stop). EndsOne (Err x) None [] (taken ++ left) left) (sym is) (λ count lt. (omega (arith, lt), refl))
+ends_unread http.OutOfMemory s taken left none is incomplete = subst (λ (x : Stop). EndsOne (Err x) None [] (taken ++ left) left) (sym is) (λ count lt. (omega (arith, lt), refl, tt))
 ends_unread http.BadHead s taken left none is incomplete = absurd cc
 ends_unread http.HeadTooLong s taken left none is incomplete = absurd cc
 ends_unread http.BadLength s taken left none is incomplete = absurd cc

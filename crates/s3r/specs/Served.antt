@@ -75,7 +75,7 @@ IsEnd (Ok Refused) count final closing rest left = (count < 65536) × (final ≡
 IsEnd (Ok Limit) count final closing rest left = (count ≡ 65536) × (final ≡ None) × (closing ≡ []) × (rest ≢ [])
 IsEnd (Err Input) count final closing rest left = (count ≤ 65536) × (final ≡ None) × (closing ≡ []) × (count < 65536 → (taken : List ℕ) × (rest ≡ taken ++ left) × IsIncomplete taken)
 IsEnd (Err Output) count final closing rest left = (count < 65536) × ((IsSome final × (closing ≡ [])) ⊎ ((final ≡ None) × IsRefused rest closing))
-IsEnd (Err OutOfMemory) count final closing rest left = (count ≤ 65536) × (output_of closing ≡ [])
+IsEnd (Err OutOfMemory) count final closing rest left = (count ≤ 65536) × (output_of closing ≡ []) × IfSome final (λ t. t.sent ≡ [])
 
 -- The requests of the input were answered in turn, up to the end of the run.
 pub record Served (n : ℕ) (room : ℕ → ℕ) (result : Result Ending Stop) (old new : Outside) (before after : Counts) : Type 0 where

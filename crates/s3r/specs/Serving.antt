@@ -47,6 +47,7 @@ pub record AnswersOne (n : ℕ) (room : ℕ → ℕ) (before : Events) (raw : Ra
   pub is : IsStepOf n room before old.as_read (request_of raw) outcome step
   pub front : answer_to raw outcome ≡ sent ++ more
   pub whole : OnOk result (more ≡ [])
+  pub unsaid : result ≡ Err stop.OutOfMemory → sent ≡ []
   pub passes : Passes n (answered sent ∷ step) old new
   pub keeps : Keeps (answered sent ∷ (step ++ before)) stores new
   pub input : KeepsInput old new

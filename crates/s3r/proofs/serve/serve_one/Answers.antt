@@ -7,6 +7,7 @@ use Rattle.s3r_http.specs.declared.message.HttpFault.{HttpFault}
 use Rattle.s3r_http.specs.declared.message.RawRequest.{RawRequest}
 use Rattle.s3r_http.specs.Request.{ReadsSome}
 use Rattle.s3r_api.specs.Texts.{problem_text}
+use Rattle.s3r.specs.declared.stop.Stop.{Stop}
 use Rattle.s3r.specs.declared.stop.Ending.TheVariants.{Over, Refused}
 use Rattle.s3r.proofs.Telling.{serves_turn, serves_none, serves_closing, ends_answered, ends_cut, refused_by, ends_refused, ends_refusal_cut, ends_unread}
 use Rattle.s3r.proofs.serve.serve_one.Goals as goal
@@ -31,7 +32,7 @@ returns-in_err-answer_one-in-Ok-Some-clause-told g c = λ told before keeps.
     let p = err_from_is_err_and c.from_residual.result c.from_residual.ensures.1 in
     rw (p.1, p.2) (serves_turn (length stores) (g.W.World.shape c.args.world.now).room (g.W.World.shape c.read_request.new.world).room before c.in-Ok-Some.raw (c.args.buffer.now ++ start.input) read.0 c.read_request.new.buffer (Err c.in_err-answer_one-in-Ok-Some.field-0.0) c.answer_one.new.desk.stores.items
     start mid end (g.W.World.faults c.args.world.now) (g.W.World.faults c.read_request.new.world) (g.W.World.faults c.answer_one.new.world) rooms c.read_request.ensures.counts reads read.1 read.2 did
-    (Err c.in_err-answer_one-in-Ok-Some.field-0.0) (ends_cut c.in_err-answer_one-in-Ok-Some.field-0.0 c.in_err-answer_one-in-Ok-Some.ensures.stop (record { raw = c.in-Ok-Some.raw; text = read.0; outcome = did.outcome; step = did.step; sent = did.sent }) (c.read_request.new.buffer ++ end.input) end.input))
+    (Err c.in_err-answer_one-in-Ok-Some.field-0.0) (ends_cut c.in_err-answer_one-in-Ok-Some.field-0.0 c.in_err-answer_one-in-Ok-Some.ensures.stop (record { raw = c.in-Ok-Some.raw; text = read.0; outcome = did.outcome; step = did.step; sent = did.sent }) (λ e. did.unsaid (ap (λ (x : Stop). Err x) e)) (c.read_request.new.buffer ++ end.input) end.input))
 
 pub returns-in_ok-answer_one-in-Ok-Some-clause-told : goal.returns-in_ok-answer_one-in-Ok-Some-clause-told
 returns-in_ok-answer_one-in-Ok-Some-clause-told g c = λ told before keeps.
