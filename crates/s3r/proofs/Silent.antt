@@ -27,7 +27,7 @@ begun_silent commits events is = ap output_of is.begun
 
 comes_silent : (room : ℕ → ℕ) (at : Histories) (commits : List Commit) (reply : Answer) (events : Events) (result : Result Answer DeskFault) → Comes room at commits reply events result → output_of events ≡ []
 comes_silent room at commits reply events (Ok a) comes = ap output_of comes.1 ∙ made_silent at commits
-comes_silent room at commits reply events (Err (faults.Volume v)) comes = begun_silent commits events comes
+comes_silent room at commits reply events (Err (faults.Volume v)) comes = begun_silent commits events comes.0
 comes_silent room at commits reply events (Err (faults.Full v)) comes = ap output_of comes.0
 comes_silent room at commits reply events (Err (faults.Damaged v offset)) comes = absurd comes
 comes_silent room at commits reply events (Err faults.OutOfMemory) comes = ⊎_elim (λ none. ap output_of none) (λ is. begun_silent commits events is) comes

@@ -100,6 +100,17 @@ fn expect_in_pieces(rt: &impl Abort, alloc: Global, input: &str, output: &str) -
     Ok(())
 }
 
+// Requests in turn, each with its answer.
+fn expect_rows(rt: &impl Abort, alloc: Global, rows: &[(String, String)]) -> Result<(), Fail> {
+    let mut input = String::new(alloc);
+    let mut output = String::new(alloc);
+    for (asked, answer) in rows {
+        input.push_str(asked.as_str())?;
+        output.push_str(answer.as_str())?;
+    }
+    expect_in_pieces(rt, alloc, input.as_str(), output.as_str())
+}
+
 #[test]
 fn words_of_another_program(rt: HostRuntime) -> Result<(), Fail> {
     let alloc = rt.alloc();
@@ -160,13 +171,53 @@ fn put_and_get(rt: HostRuntime) -> Result<(), Fail> {
         // Bytes behind a last request aren't read.
         (String::from_str(alloc, "x")?, String::new(alloc)),
     ];
-    let mut input = String::new(alloc);
-    let mut output = String::new(alloc);
-    for (asked, answer) in &rows {
-        input.push_str(asked.as_str())?;
-        output.push_str(answer.as_str())?;
-    }
-    expect_in_pieces(&rt, alloc, input.as_str(), output.as_str())
+    expect_rows(&rt, alloc, &rows)
+}
+
+// A marker hides the version before it, and a bucket with either isn't deleted.
+#[test]
+fn markers_and_deletion(rt: HostRuntime) -> Result<(), Fail> {
+    let alloc = rt.alloc();
+    let marker = "x-amz-delete-marker: true\r\nx-amz-version-id: 0-0000000000000003\r\n";
+    let rows = [
+        (
+            request(alloc, "HEAD", "/abc", "", "")?,
+            String::from_str(
+                alloc,
+                "HTTP/1.1 404 Not Found\r\nContent-Length: 23\r\nContent-Type: application/json\r\n\r\n",
+            )?,
+        ),
+        (put(alloc, "/abc", "")?, done(alloc, "")?),
+        (
+            put(alloc, "/abc/k", "hi")?,
+            done(alloc, "x-amz-version-id: 0-0000000000000002\r\n")?,
+        ),
+        (
+            request(alloc, "DELETE", "/abc/k", "", "")?,
+            format!(in alloc; "HTTP/1.1 204 No Content\r\n{marker}\r\n")?,
+        ),
+        (
+            get(alloc, "/abc/k")?,
+            format!(in alloc;
+                "HTTP/1.1 404 Not Found\r\nContent-Length: 20\r\nContent-Type: application/json\r\n{marker}\r\n{{\"Code\":\"NoSuchKey\"}}"
+            )?,
+        ),
+        (
+            request(alloc, "DELETE", "/abc", "", "")?,
+            refused(alloc, "409 Conflict", "{\"Code\":\"BucketNotEmpty\"}")?,
+        ),
+        (put(alloc, "/xyz", "")?, done(alloc, "")?),
+        (request(alloc, "HEAD", "/xyz", "", "")?, done(alloc, "")?),
+        (
+            request(alloc, "DELETE", "/xyz", "", "")?,
+            String::from_str(alloc, "HTTP/1.1 204 No Content\r\n\r\n")?,
+        ),
+        (
+            request(alloc, "DELETE", "/xyz/k", "", "")?,
+            refused(alloc, "404 Not Found", "{\"Code\":\"NoSuchBucket\"}")?,
+        ),
+    ];
+    expect_rows(&rt, alloc, &rows)
 }
 
 // Bytes that begin no request end it, and what was made before stands.

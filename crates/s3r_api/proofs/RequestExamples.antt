@@ -24,11 +24,11 @@ create : List ℕ → Result Request Problem
 unfolding asked
 create body = request_of (asked (codes "PUT") (codes "/aaa") [] body)
 
-object : get (codes "/aaa/a%20b/c") ≡ Ok (request.GetObject (codes "aaa") (codes "a b/c"))
+object : get (codes "/aaa/a%20b/c") ≡ Ok (request.GetObject (codes "aaa") (codes "a b/c") None)
 unfolding get asked request_of place_of object_request percent_decode is_utf8 chars lib.Utf8.encode
 object = refl
 
-slash : get (codes "/aaa//") ≡ Ok (request.GetObject (codes "aaa") (codes "/"))
+slash : get (codes "/aaa//") ≡ Ok (request.GetObject (codes "aaa") (codes "/") None)
 unfolding get asked request_of place_of object_request percent_decode is_utf8 chars lib.Utf8.encode
 slash = refl
 

@@ -14,7 +14,7 @@ use Rattle.s3r_api.specs.declared.problem.Problem.{Problem}
 use Rattle.s3r_api.specs.declared.problem.Problem.TheVariants as problem
 use Rattle.s3r_api.specs.Problems.{Gives, IsOfRequest}
 use Rattle.s3r_api.specs.Location.{location_in, region_of_text, region_of_value, region_of}
-use Rattle.s3r_api.specs.Request.{◌>>=◌, bucket_named, key_named, creates_bucket, puts_object, gets_object, bucket_request, object_request}
+use Rattle.s3r_api.specs.Request.{◌>>=◌, bucket_named, key_named, creates_bucket, puts_object, gets_object, deletes, heads_bucket, bucket_asked, object_read, bucket_request, object_request}
 
 -- a result whose value has P, and whose reason is one of a framed request
 abbrev pub Told : {X : Type 0} → (X → Type 0) → Result X Problem → Type 0
@@ -61,23 +61,31 @@ told-region (byte ∷ bytes) = told-body (byte ∷ bytes) (is_utf8 (byte ∷ byt
 abbrev pub Fits : RawRequest → Request → Type 0
 Fits raw asked = length raw.body ≤ 4194304 → IsRequest asked
 
+told-bucket-asked : (raw : RawRequest) (name : List ℕ) (b d : Bool) → is_bucket_name name ≡ true
+    → Told (Fits raw) (if b then Ok (request.HeadBucket name) else (if d then Ok (request.DeleteBucket name) else Err problem.UnknownQuery))
+told-bucket-asked raw name true d named = λ short. tt
+told-bucket-asked raw name false true named = λ short. named
+told-bucket-asked raw name false false named = tt
+
 told-create : (raw : RawRequest) (name : List ℕ) (b : Bool) → is_bucket_name name ≡ true
-    → Told (Fits raw) (if b then (region_of raw.body >>= λ region. Ok (request.CreateBucket name region false)) else Err problem.UnknownQuery)
+    → Told (Fits raw) (if b then (region_of raw.body >>= λ region. Ok (request.CreateBucket name region false)) else bucket_asked raw name)
 told-create raw name true named = told-bind Any (Fits raw) (region_of raw.body) _ (told-region raw.body) (λ region any short. named)
-told-create raw name false named = tt
+told-create raw name false named = told-bucket-asked raw name (heads_bucket raw) (deletes raw) named
 
 pub told-bucket : (raw : RawRequest) (bytes : List ℕ) → Told (Fits raw) (bucket_request raw bytes)
 unfolding bucket_request
 told-bucket raw bytes = told-bind (λ n. is_bucket_name n ≡ true) (Fits raw) (bucket_named bytes) _ (told-name bytes _ refl) (λ name named. told-create raw name (creates_bucket raw) named)
 
-told-get : (raw : RawRequest) (name key : List ℕ) (b : Bool) → Told (Fits raw) (if b then Ok (request.GetObject name key) else Err problem.UnknownQuery)
-told-get raw name key true = λ short. tt
-told-get raw name key false = tt
+told-get : (raw : RawRequest) (name key : List ℕ) (b d : Bool) → is_bucket_name name ≡ true → is_key key ≡ true
+    → Told (Fits raw) (if b then Ok (request.GetObject name key None) else (if d then Ok (request.DeleteObject name key None) else Err problem.UnknownQuery))
+told-get raw name key true d named keyed = λ short. tt
+told-get raw name key false true named keyed = λ short. ((named, keyed), tt)
+told-get raw name key false false named keyed = tt
 
 told-asked : (raw : RawRequest) (name key : List ℕ) (b : Bool) → is_bucket_name name ≡ true → is_key key ≡ true
-    → Told (Fits raw) (if b then Ok (request.PutObject name key raw.body [] false (codes "STANDARD")) else (if gets_object raw then Ok (request.GetObject name key) else Err problem.UnknownQuery))
+    → Told (Fits raw) (if b then Ok (request.PutObject name key raw.body [] false (codes "STANDARD")) else object_read raw name key)
 told-asked raw name key true named keyed = λ short. (named, keyed, refl, refl, short)
-told-asked raw name key false named keyed = told-get raw name key (gets_object raw)
+told-asked raw name key false named keyed = told-get raw name key (gets_object raw) (deletes raw) named keyed
 
 pub told-object : (raw : RawRequest) (bytes written : List ℕ) → Told (Fits raw) (object_request raw bytes written)
 unfolding object_request

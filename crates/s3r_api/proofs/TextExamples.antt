@@ -1,5 +1,5 @@
 -- The texts of some answers.
-use Rattle.std.proofs.Common.{◌≡◌, true, false, Ok, Err, codes, refl}
+use Rattle.std.proofs.Common.{◌≡◌, true, false, Some, None, Ok, Err, codes, refl}
 use Rattle.std.specs.Fmt.{digits}
 use Rattle.serde_json.proofs.OnLiterals.{serde_json_on_literals}
 use Rattle.s3r_names.specs.Version.{hex_digits}
@@ -20,15 +20,39 @@ cut_short : problem_text problem.CutShort false true
 unfolding reply_text status_line code_text length_line last_line digits serde_json_on_literals
 cut_short = refl
 
-object : answer_text (Ok (answer.Object (record { region = 0; index = 2 }) (codes "hi"))) false false
+object : answer_text (Ok (answer.Object (record { region = 0; index = 2 }) (codes "STANDARD") false false (codes "hi"))) false false
     ≡ codes "HTTP/1.1 200 OK\r\nContent-Length: 2\r\nx-amz-version-id: 0-0000000000000002\r\n\r\nhi"
 unfolding reply_text status_line code_text length_line last_line digits hex_digits
 object = refl
 
-head : answer_text (Ok (answer.Object (record { region = 3; index = 255 }) (codes "hi"))) true false
+head : answer_text (Ok (answer.Object (record { region = 3; index = 255 }) (codes "STANDARD") false true (codes "hi"))) true false
     ≡ codes "HTTP/1.1 200 OK\r\nContent-Length: 2\r\nx-amz-version-id: 3-00000000000000ff\r\n\r\n"
 unfolding reply_text status_line code_text length_line last_line digits hex_digits
 head = refl
+
+locked : answer_text (Ok (answer.Object (record { region = 0; index = 2 }) (codes "GLACIER") true false (codes "hi"))) false false
+    ≡ codes "HTTP/1.1 200 OK\r\nContent-Length: 2\r\nx-amz-object-lock-legal-hold: OFF\r\nx-amz-storage-class: GLACIER\r\nx-amz-version-id: 0-0000000000000002\r\n\r\nhi"
+unfolding reply_text status_line code_text length_line last_line digits hex_digits
+locked = refl
+
+gone : answer_text (Ok (answer.Gone (Some (record { region = 0; index = 3 })) true)) false false
+    ≡ codes "HTTP/1.1 204 No Content\r\nx-amz-delete-marker: true\r\nx-amz-version-id: 0-0000000000000003\r\n\r\n"
+unfolding reply_text status_line code_text length_line last_line digits hex_digits
+gone = refl
+
+bucket_gone : answer_text (Ok (answer.Gone None false)) false false ≡ codes "HTTP/1.1 204 No Content\r\n\r\n"
+unfolding reply_text status_line code_text length_line last_line digits
+bucket_gone = refl
+
+marker_there : answer_text (Ok (answer.MarkerThere (record { region = 0; index = 3 }) false)) false false
+    ≡ codes "HTTP/1.1 404 Not Found\r\nContent-Length: 20\r\nContent-Type: application/json\r\nx-amz-delete-marker: true\r\nx-amz-version-id: 0-0000000000000003\r\n\r\n{\"Code\":\"NoSuchKey\"}"
+unfolding reply_text status_line code_text length_line last_line digits hex_digits serde_json_on_literals
+marker_there = refl
+
+hold_on : answer_text (Ok (answer.Hold true)) false false
+    ≡ codes "HTTP/1.1 200 OK\r\nContent-Length: 15\r\nContent-Type: application/json\r\n\r\n{\"Status\":\"ON\"}"
+unfolding reply_text status_line code_text length_line last_line digits serde_json_on_literals
+hold_on = refl
 
 done : answer_text (Ok answer.Done) false true ≡ codes "HTTP/1.1 200 OK\r\nContent-Length: 0\r\nConnection: close\r\n\r\n"
 unfolding reply_text status_line code_text length_line last_line digits

@@ -3,5 +3,7 @@ pub mod Target
 pub mod Places
 pub mod Location
 pub mod Request
+pub mod Ids
+pub mod Listings
 pub mod Replies
 pub mod Texts

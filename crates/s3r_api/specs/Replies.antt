@@ -1,9 +1,9 @@
 -- What is answered: the status, the lines and the body of each answer.
-use Rattle.std.specs.Prelude.{ℕ, ◌&&◌, nat_le, if◌then◌else◌, List, [], ◌∷◌, ◌++◌, Result, Ok, Err, codes, decimal}
+use Rattle.std.specs.Prelude.{ℕ, Bool, if◌then◌else◌, List, [], ◌∷◌, ◌++◌, Option, Some, None, Result, Ok, Err, codes, decimal}
+use Rattle.std.specs.Str.{bytes_eq}
 use Rattle.serde_json.specs.Data.{Data, Members, no_members, member, string, number, unsigned, object}
 use Rattle.serde_json.specs.Written.{compact_text}
 use Rattle.s3r_names.specs.declared.version.VersionId.{VersionId}
-use Rattle.s3r_names.specs.Version.{version_text}
 use Rattle.s3r_history.specs.declared.refusal.Refusal.{Refusal}
 use Rattle.s3r_history.specs.declared.refusal.Refusal.TheVariants as refusal
 use Rattle.s3r_http.specs.declared.message.Field.{Field}
@@ -11,6 +11,10 @@ use Rattle.s3r_desk.specs.declared.fault.DeskFault.{DeskFault}
 use Rattle.s3r_desk.specs.declared.fault.DeskFault.TheVariants as fault
 use Rattle.s3r_desk.specs.declared.request.Answer.{Answer}
 use Rattle.s3r_desk.specs.declared.request.Answer.TheVariants as answer
+use Rattle.s3r_json.specs.Tags.{tags_data}
+use Rattle.s3r_json.specs.Status.{status_data}
+use Rattle.s3r_api.specs.Ids.{id_text}
+use Rattle.s3r_api.specs.Listings.{listing_data}
 use Rattle.s3r_api.specs.declared.problem.Problem.{Problem}
 use Rattle.s3r_api.specs.declared.problem.Problem.TheVariants as problem
 
@@ -19,12 +23,40 @@ pub record Reply : Type 0 where
   pub fields : List Field
   pub body : List ℕ
 
--- an id that no version has has no text
-abbrev pub id_text : VersionId → List ℕ
-id_text id = if nat_le id.region 7 && nat_le 1 id.index then version_text id else []
-
 abbrev pub version_field : VersionId → Field
 version_field id = record { name = codes "x-amz-version-id"; value = id_text id }
+
+abbrev pub marker_field : Field
+marker_field = record { name = codes "x-amz-delete-marker"; value = codes "true" }
+
+abbrev pub hold_word : Bool → List ℕ
+hold_word hold = if hold then codes "ON" else codes "OFF"
+
+abbrev pub hold_field : Bool → Field
+hold_field hold = record { name = codes "x-amz-object-lock-legal-hold"; value = hold_word hold }
+
+abbrev pub class_field : List ℕ → Field
+class_field class = record { name = codes "x-amz-storage-class"; value = class }
+
+-- a hold is told under Object Lock alone
+abbrev pub hold_fields : Bool → Bool → List Field
+hold_fields locked hold = if locked then hold_field hold ∷ [] else []
+
+-- a class is told where it isn't the usual one
+abbrev pub class_fields : List ℕ → List Field
+class_fields class = if bytes_eq class (codes "STANDARD") then [] else class_field class ∷ []
+
+abbrev pub marker_fields : Bool → List Field
+marker_fields marker = if marker then marker_field ∷ [] else []
+
+-- the lines of a version
+abbrev pub object_fields : VersionId → List ℕ → Bool → Bool → List Field
+object_fields id class locked hold = hold_fields locked hold ++ class_fields class ++ version_field id ∷ []
+
+-- the lines of what is gone
+abbrev pub gone_fields : Option VersionId → Bool → List Field
+gone_fields None marker = []
+gone_fields (Some id) marker = marker_fields marker ++ version_field id ∷ []
 
 abbrev pub json_field : Field
 json_field = record { name = codes "Content-Type"; value = codes "application/json" }
@@ -54,10 +86,34 @@ rule_members kind rule = member (codes "Kind") (string kind) (member (codes "Rul
 abbrev pub refusal_reply : Refusal → Reply
 refusal_reply refusal.NoSuchBucket = coded 404 (codes "NoSuchBucket")
 refusal_reply refusal.BucketAlreadyExists = coded 409 (codes "BucketAlreadyExists")
+refusal_reply refusal.BucketNotEmpty = coded 409 (codes "BucketNotEmpty")
+refusal_reply refusal.NoSuchVersion = coded 404 (codes "NoSuchVersion")
+refusal_reply refusal.MethodNotAllowed = coded 405 (codes "MethodNotAllowed")
+refusal_reply refusal.AccessDenied = coded 403 (codes "AccessDenied")
+refusal_reply refusal.InvalidBucketState = coded 409 (codes "InvalidBucketState")
 refusal_reply refusal.LockNeeded = json_reply 400 (code_text (codes "InvalidRequest") (rule_members (codes "LockNeeded") 0))
 refusal_reply refusal.TooManyBuckets = coded 400 (codes "TooManyBuckets")
 refusal_reply refusal.NoSuchKey = coded 404 (codes "NoSuchKey")
 refusal_reply refusal.InvalidLocation = coded 400 (codes "InvalidLocationConstraint")
+
+abbrev pub marked_status : Bool → ℕ
+marked_status named = if named then 405 else 404
+
+abbrev pub marked_code : Bool → List ℕ
+marked_code named = if named then codes "MethodNotAllowed" else codes "NoSuchKey"
+
+abbrev pub marked_fields : VersionId → List Field
+marked_fields id = json_field ∷ marker_field ∷ version_field id ∷ []
+
+-- a marker in place of a version
+abbrev pub marker_reply : VersionId → Bool → Reply
+marker_reply id named = record { status = marked_status named; fields = marked_fields id; body = code_text (marked_code named) no_members }
+
+abbrev pub versioning_word : Bool → List ℕ
+versioning_word enabled = if enabled then codes "Enabled" else codes "Suspended"
+
+abbrev pub status_reply : List ℕ → Reply
+status_reply word = json_reply 200 (compact_text (status_data word))
 
 abbrev pub fault_reply : DeskFault → Reply
 fault_reply (fault.Volume region) = json_reply 503 (code_text (codes "VolumeFault") (region_members region))
@@ -83,6 +139,12 @@ problem_reply problem.OutOfMemory = coded 500 (codes "OutOfMemory")
 abbrev pub answer_reply : Result Answer DeskFault → Reply
 answer_reply (Ok answer.Done) = record { status = 200; fields = []; body = [] }
 answer_reply (Ok (answer.Written id)) = record { status = 200; fields = version_field id ∷ []; body = [] }
-answer_reply (Ok (answer.Object id body)) = record { status = 200; fields = version_field id ∷ []; body = body }
+answer_reply (Ok (answer.Gone id marker)) = record { status = 204; fields = gone_fields id marker; body = [] }
+answer_reply (Ok (answer.Object id class locked hold body)) = record { status = 200; fields = object_fields id class locked hold; body = body }
+answer_reply (Ok (answer.MarkerThere id named)) = marker_reply id named
+answer_reply (Ok (answer.TagSet tags)) = json_reply 200 (compact_text (tags_data tags))
+answer_reply (Ok (answer.Hold hold)) = status_reply (hold_word hold)
+answer_reply (Ok (answer.Versioning enabled)) = status_reply (versioning_word enabled)
+answer_reply (Ok (answer.Listing listing)) = json_reply 200 (compact_text (listing_data listing))
 answer_reply (Ok (answer.Refused why)) = refusal_reply why
 answer_reply (Err why) = fault_reply why

@@ -1,5 +1,5 @@
 -- Which request of the desk a framed request is.
-use Rattle.std.specs.Prelude.{ℕ, ◌&&◌, ◌||◌, not, Bool, false, if◌then◌else◌, nat_lt, List, [], length, Result, Ok, Err, codes}
+use Rattle.std.specs.Prelude.{ℕ, ◌&&◌, ◌||◌, not, Bool, false, if◌then◌else◌, nat_lt, List, [], length, None, Result, Ok, Err, codes}
 use Rattle.std.specs.List.{list_any}
 use Rattle.std.specs.Str.{bytes_eq}
 use Rattle.percent_encoding.specs.Percent.{percent_decode}
@@ -52,15 +52,30 @@ puts_object raw = not (has_query raw.target)
 abbrev pub gets_object : RawRequest → Bool
 gets_object raw = not (has_query raw.target) && (is_method (codes "GET") raw || is_head raw)
 
+-- a bucket or an object is to be deleted, and no version of it is named
+abbrev pub deletes : RawRequest → Bool
+deletes raw = not (has_query raw.target) && is_method (codes "DELETE") raw
+
+-- whether the bucket is there
+abbrev pub heads_bucket : RawRequest → Bool
+heads_bucket raw = not (has_query raw.target) && is_head raw
+
+abbrev pub bucket_asked : RawRequest → List ℕ → Result Request Problem
+bucket_asked raw name = if heads_bucket raw then Ok (request.HeadBucket name) else (if deletes raw then Ok (request.DeleteBucket name) else Err UnknownQuery)
+
 -- what is asked of a bucket
 unfoldable pub bucket_request : RawRequest → List ℕ → Result Request Problem
 bucket_request raw bytes = do
   name ← bucket_named bytes
-  if creates_bucket raw then (region_of raw.body >>= λ region. Ok (request.CreateBucket name region false)) else Err UnknownQuery
+  if creates_bucket raw then (region_of raw.body >>= λ region. Ok (request.CreateBucket name region false)) else bucket_asked raw name
+
+abbrev pub object_read : RawRequest → List ℕ → List ℕ → Result Request Problem
+object_read raw name key =
+    if gets_object raw then Ok (request.GetObject name key None) else (if deletes raw then Ok (request.DeleteObject name key None) else Err UnknownQuery)
 
 abbrev pub object_asked : RawRequest → List ℕ → List ℕ → Result Request Problem
 object_asked raw name key =
-    if puts_object raw then Ok (request.PutObject name key raw.body [] false (codes "STANDARD")) else (if gets_object raw then Ok (request.GetObject name key) else Err UnknownQuery)
+    if puts_object raw then Ok (request.PutObject name key raw.body [] false (codes "STANDARD")) else object_read raw name key
 
 -- what is asked of an object, its key being as it was written
 unfoldable pub object_request : RawRequest → List ℕ → List ℕ → Result Request Problem

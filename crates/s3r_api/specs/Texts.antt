@@ -6,7 +6,8 @@ use Rattle.s3r_http.specs.Response.{response_text}
 use Rattle.s3r_desk.specs.declared.fault.DeskFault.{DeskFault}
 use Rattle.s3r_desk.specs.declared.request.Answer.{Answer}
 use Rattle.s3r_api.specs.declared.problem.Problem.{Problem}
-use Rattle.s3r_api.specs.Replies.{Reply, id_text, answer_reply, problem_reply}
+use Rattle.s3r_api.specs.Ids.{id_text}
+use Rattle.s3r_api.specs.Replies.{Reply, answer_reply, problem_reply}
 
 unfoldable pub reply_text : Reply → Bool → Bool → List ℕ
 reply_text reply head last = response_text reply.status reply.fields reply.body head last

@@ -1,35 +1,58 @@
 //! Answers as bytes.
 
-ghost use Rattle.std.specs.Prelude.{◌≡◌, [], ◌∷◌, IfOk, string_bytes};
+ghost use Rattle.std.specs.Prelude.{◌≡◌, [], ◌∷◌, ◌++◌, IfOk, string_bytes};
 ghost use Rattle.s3r_http.specs.Response.{response_text};
-ghost use Rattle.s3r_api.specs.Replies.{id_text, version_field, json_field, json_reply};
+ghost use Rattle.s3r_api.specs.Ids.{id_text};
+ghost use Rattle.s3r_api.specs.Replies.{version_field, marker_field, hold_word, hold_field, class_field, hold_fields, class_fields, marker_fields, object_fields, gone_fields, json_field, json_reply, marked_status, marked_code, marked_fields, marker_reply};
 ghost use Rattle.s3r_api.specs.Texts.{reply_text, answer_text, problem_text, IdsAreSpelled};
 
+use crate::ids::id_bytes;
 use crate::problem::Problem;
-use crate::replies::{JsonReply, fault_reply, problem_reply, refusal_reply};
+use crate::replies::{
+    JsonReply, code_text, fault_reply, hold_reply, listing_reply, problem_reply, refusal_reply,
+    tags_reply, versioning_reply,
+};
 use http::StatusCode;
 use s3r_desk::{Answer, DeskFault};
 use s3r_http::{Field, print_response};
-use s3r_names::{Bytes, Text, VersionId};
+use s3r_names::{Bytes, ClassName, Text, VersionId};
 use std::alloc::{AllocError, Global};
-
-/// An id that no version has has no text.
-fn id_text(alloc: Global, id: VersionId) -> Result<Bytes, AllocError>
-    ensures { IfOk result (λ text. text ≡ id_text id) }
-{
-    if id.region > 7 || id.index == 0 {
-        return Ok(Bytes::from_vec(Vec::new(alloc)));
-    }
-    let mut text = [0; 18];
-    id.print(&mut text);
-    Bytes::from_slice(alloc, &text)
-}
 
 fn version_field(alloc: Global, id: VersionId) -> Result<Field, AllocError>
     ensures { IfOk result (λ field. field ≡ version_field id) }
 {
     let name = Text::from_str(alloc, "x-amz-version-id")?;
-    let value = id_text(alloc, id)?;
+    let value = id_bytes(alloc, id)?;
+    Ok(Field { name, value })
+}
+
+fn marker_field(alloc: Global) -> Result<Field, AllocError>
+    ensures { IfOk result (λ field. field ≡ marker_field) }
+{
+    let name = Text::from_str(alloc, "x-amz-delete-marker")?;
+    let value = Bytes::from_slice(alloc, b"true")?;
+    Ok(Field { name, value })
+}
+
+fn hold_word(hold: bool) -> &'static str
+    ensures { result.now ≡ hold_word hold }
+{
+    if hold { "ON" } else { "OFF" }
+}
+
+fn hold_field(alloc: Global, hold: bool) -> Result<Field, AllocError>
+    ensures { IfOk result (λ field. field ≡ hold_field hold) }
+{
+    let name = Text::from_str(alloc, "x-amz-object-lock-legal-hold")?;
+    let value = Bytes::from_slice(alloc, hold_word(hold).as_bytes())?;
+    Ok(Field { name, value })
+}
+
+fn class_field(alloc: Global, class: &ClassName) -> Result<Field, AllocError>
+    ensures { IfOk result (λ field. field ≡ class_field class.now) }
+{
+    let name = Text::from_str(alloc, "x-amz-storage-class")?;
+    let value = Bytes::from_slice(alloc, class.as_bytes())?;
     Ok(Field { name, value })
 }
 
@@ -41,18 +64,102 @@ fn json_field(alloc: Global) -> Result<Field, AllocError>
     Ok(Field { name, value })
 }
 
-/// The answer that a version's id and a body are.
-fn version_bytes(
+/// A hold is told under Object Lock alone.
+fn hold_fields(alloc: Global, locked: bool, hold: bool) -> Result<Vec<Field>, AllocError>
+    ensures { IfOk result (λ fields. fields.items ≡ hold_fields locked hold) }
+{
+    let mut fields = Vec::new(alloc);
+    if locked {
+        fields.push(hold_field(alloc, hold)?)?;
+    }
+    Ok(fields)
+}
+
+/// A class is told where it isn't the usual one.
+fn with_class(
+    alloc: Global,
+    mut fields: Vec<Field>,
+    class: &ClassName,
+) -> Result<Vec<Field>, AllocError>
+    ensures { IfOk result (λ v. v.items ≡ fields.items ++ class_fields class.now) }
+{
+    if class.as_str() != "STANDARD" {
+        fields.push(class_field(alloc, class)?)?;
+    }
+    Ok(fields)
+}
+
+fn marker_fields(alloc: Global, marker: bool) -> Result<Vec<Field>, AllocError>
+    ensures { IfOk result (λ fields. fields.items ≡ marker_fields marker) }
+{
+    let mut fields = Vec::new(alloc);
+    if marker {
+        fields.push(marker_field(alloc)?)?;
+    }
+    Ok(fields)
+}
+
+fn with_version(
+    alloc: Global,
+    mut fields: Vec<Field>,
+    id: VersionId,
+) -> Result<Vec<Field>, AllocError>
+    ensures { IfOk result (λ v. v.items ≡ fields.items ++ version_field id ∷ []) }
+{
+    fields.push(version_field(alloc, id)?)?;
+    Ok(fields)
+}
+
+/// The lines of a version.
+fn object_fields(
     alloc: Global,
     id: VersionId,
+    class: &ClassName,
+    locked: bool,
+    hold: bool,
+) -> Result<Vec<Field>, AllocError>
+    ensures { IfOk result (λ v. v.items ≡ object_fields id class.now locked hold) }
+{
+    let fields = hold_fields(alloc, locked, hold)?;
+    let fields = with_class(alloc, fields, class)?;
+    with_version(alloc, fields, id)
+}
+
+/// The lines of what is gone.
+fn gone_fields(alloc: Global, id: Option<VersionId>, marker: bool) -> Result<Vec<Field>, AllocError>
+    ensures { IfOk result (λ v. v.items ≡ gone_fields id marker) }
+{
+    match id {
+        Some(id) => with_version(alloc, marker_fields(alloc, marker)?, id),
+        None => Ok(Vec::new(alloc)),
+    }
+}
+
+/// The answer that a version was written.
+fn written_bytes(
+    alloc: Global,
+    id: VersionId,
+    head: bool,
+    last: bool,
+) -> Result<Vec<u8>, AllocError>
+    ensures { IfOk result (λ text. text.items ≡ response_text 200 (version_field id ∷ []) [] head last) }
+{
+    let fields = [version_field(alloc, id)?];
+    print_response(alloc, StatusCode::OK, &fields, &[], head, last)
+}
+
+/// The answer with these lines and this body.
+fn listed_bytes(
+    alloc: Global,
+    status: StatusCode,
+    fields: Vec<Field>,
     body: &[u8],
     head: bool,
     last: bool,
 ) -> Result<Vec<u8>, AllocError>
-    ensures { IfOk result (λ text. text.items ≡ response_text 200 (version_field id ∷ []) body.now head last) }
+    ensures { IfOk result (λ text. text.items ≡ response_text status fields.items body.now head last) }
 {
-    let fields = [version_field(alloc, id)?];
-    print_response(alloc, StatusCode::OK, &fields, body, head, last)
+    print_response(alloc, status, &fields, body, head, last)
 }
 
 #[tactic(auto, unfolding(crate::specs::Texts::reply_text))]
@@ -69,6 +176,53 @@ fn json_bytes(
     print_response(alloc, reply.status, &fields, body, head, last)
 }
 
+fn marked_status(named: bool) -> StatusCode
+    ensures { result ≡ marked_status named }
+{
+    if named {
+        StatusCode::METHOD_NOT_ALLOWED
+    } else {
+        StatusCode::NOT_FOUND
+    }
+}
+
+fn marked_code(named: bool) -> &'static str
+    ensures { result.now ≡ marked_code named }
+{
+    if named {
+        "MethodNotAllowed"
+    } else {
+        "NoSuchKey"
+    }
+}
+
+/// The lines of a marker that stands in place of a version.
+fn marked_fields(alloc: Global, id: VersionId) -> Result<Vec<Field>, AllocError>
+    ensures { IfOk result (λ v. v.items ≡ marked_fields id) }
+{
+    let mut fields = Vec::new(alloc);
+    fields.push(json_field(alloc)?)?;
+    fields.push(marker_field(alloc)?)?;
+    with_version(alloc, fields, id)
+}
+
+/// The answer that a marker stands in place of a version.
+#[tactic(auto, unfolding(crate::specs::Texts::reply_text))]
+fn marker_bytes(
+    alloc: Global,
+    id: VersionId,
+    named: bool,
+    head: bool,
+    last: bool,
+) -> Result<Vec<u8>, AllocError>
+    ensures { IfOk result (λ text. text.items ≡ reply_text (marker_reply id named) head last) }
+{
+    let fields = marked_fields(alloc, id)?;
+    let body = code_text(alloc, marked_code(named))?;
+    let status = marked_status(named);
+    listed_bytes(alloc, status, fields, body.as_bytes(), head, last)
+}
+
 /// The answer to a request that the desk was asked.
 #[tactic(auto, unfolding(crate::specs::Texts::reply_text))]
 pub fn answer_bytes(
@@ -81,8 +235,32 @@ pub fn answer_bytes(
 {
     match answer {
         Ok(Answer::Done) => print_response(alloc, StatusCode::OK, &[], &[], head, last),
-        Ok(Answer::Written(id)) => version_bytes(alloc, *id, &[], head, last),
-        Ok(Answer::Object { id, body }) => version_bytes(alloc, *id, body.as_slice(), head, last),
+        Ok(Answer::Written(id)) => written_bytes(alloc, *id, head, last),
+        Ok(Answer::Gone { id, marker }) => {
+            let fields = gone_fields(alloc, *id, *marker)?;
+            listed_bytes(alloc, StatusCode::NO_CONTENT, fields, &[], head, last)
+        }
+        Ok(
+            Answer::Object {
+                id,
+                class,
+                locked,
+                hold,
+                body,
+            },
+        ) => {
+            let fields = object_fields(alloc, *id, class, *locked, *hold)?;
+            listed_bytes(alloc, StatusCode::OK, fields, body.as_slice(), head, last)
+        }
+        Ok(Answer::MarkerThere { id, named }) => marker_bytes(alloc, *id, *named, head, last),
+        Ok(Answer::TagSet(tags)) => json_bytes(alloc, &tags_reply(alloc, tags)?, head, last),
+        Ok(Answer::Hold(hold)) => json_bytes(alloc, &hold_reply(alloc, *hold)?, head, last),
+        Ok(Answer::Versioning(enabled)) => {
+            json_bytes(alloc, &versioning_reply(alloc, *enabled)?, head, last)
+        }
+        Ok(Answer::Listing(listing)) => {
+            json_bytes(alloc, &listing_reply(alloc, listing)?, head, last)
+        }
         Ok(Answer::Refused(refusal)) => {
             json_bytes(alloc, &refusal_reply(alloc, *refusal)?, head, last)
         }

@@ -2,6 +2,8 @@
 #![tactic(auto)]
 
 mod answer;
+mod ids;
+mod listings;
 mod location;
 mod problem;
 mod replies;
@@ -12,5 +14,7 @@ pub use answer::{answer_bytes, ids_are_spelled, problem_bytes};
 pub use problem::{Problem, framing_problem};
 pub use request::{is_head, to_request};
 
+#[cfg(test)]
+mod listing_tests;
 #[cfg(test)]
 mod tests;

@@ -3,11 +3,17 @@
 ghost use Rattle.std.specs.Prelude.{◌≡◌, IfOk, string_bytes, codes};
 ghost use Rattle.serde_json.specs.Data.{no_members, member, string, number, unsigned};
 ghost use Rattle.serde_json.specs.View.{view};
-ghost use Rattle.s3r_api.specs.Replies.{json_reply, code_data, code_text, coded, region_members, rule_members, refusal_reply, fault_reply, problem_reply};
+ghost use Rattle.serde_json.specs.Written.{compact_text};
+ghost use Rattle.s3r_json.specs.Tags.{tags_data};
+ghost use Rattle.s3r_api.specs.Listings.{listing_data};
+ghost use Rattle.s3r_api.specs.Replies.{json_reply, status_reply, hold_word, versioning_word, code_data, code_text, coded, region_members, rule_members, refusal_reply, fault_reply, problem_reply};
 
+use crate::listings::listing_text;
 use crate::problem::Problem;
 use http::StatusCode;
-use s3r_desk::{DeskFault, Refusal};
+use s3r_desk::{DeskFault, Listing, Refusal};
+use s3r_json::{status_text, tags_text};
+use s3r_names::TagSet;
 use serde_json::{Value, json};
 use std::alloc::{AllocError, Global};
 
@@ -43,7 +49,7 @@ fn rule_value(alloc: Global, code: &str, kind: &str, rule: u32) -> Result<Value,
     json!(in alloc; {"Code": code, "Kind": kind, "Rule": rule})
 }
 
-fn code_text(alloc: Global, code: &str) -> Result<String, AllocError>
+pub fn code_text(alloc: Global, code: &str) -> Result<String, AllocError>
     ensures { IfOk result (λ text. string_bytes text ≡ code_text code.now no_members) }
 {
     code_value(alloc, code)?.to_string(alloc)
@@ -82,6 +88,13 @@ pub fn refusal_reply(alloc: Global, refusal: Refusal) -> Result<JsonReply, Alloc
     match refusal {
         Refusal::NoSuchBucket => coded(alloc, StatusCode::NOT_FOUND, "NoSuchBucket"),
         Refusal::BucketAlreadyExists => coded(alloc, StatusCode::CONFLICT, "BucketAlreadyExists"),
+        Refusal::BucketNotEmpty => coded(alloc, StatusCode::CONFLICT, "BucketNotEmpty"),
+        Refusal::NoSuchVersion => coded(alloc, StatusCode::NOT_FOUND, "NoSuchVersion"),
+        Refusal::MethodNotAllowed => {
+            coded(alloc, StatusCode::METHOD_NOT_ALLOWED, "MethodNotAllowed")
+        }
+        Refusal::AccessDenied => coded(alloc, StatusCode::FORBIDDEN, "AccessDenied"),
+        Refusal::InvalidBucketState => coded(alloc, StatusCode::CONFLICT, "InvalidBucketState"),
         Refusal::LockNeeded => Ok(JsonReply {
             status: StatusCode::BAD_REQUEST,
             body: rule_text(alloc, "InvalidRequest", "LockNeeded", 0)?,
@@ -92,6 +105,53 @@ pub fn refusal_reply(alloc: Global, refusal: Refusal) -> Result<JsonReply, Alloc
             coded(alloc, StatusCode::BAD_REQUEST, "InvalidLocationConstraint")
         }
     }
+}
+
+pub fn tags_reply(alloc: Global, tags: &TagSet) -> Result<JsonReply, AllocError>
+    ensures { IfOk result (λ reply. json_reply reply.status (string_bytes reply.body) ≡ json_reply 200 (compact_text (tags_data tags.now))) }
+{
+    Ok(JsonReply {
+        status: StatusCode::OK,
+        body: tags_text(alloc, tags)?,
+    })
+}
+
+fn status_reply(alloc: Global, word: &str) -> Result<JsonReply, AllocError>
+    ensures { IfOk result (λ reply. json_reply reply.status (string_bytes reply.body) ≡ status_reply word.now) }
+{
+    Ok(JsonReply {
+        status: StatusCode::OK,
+        body: status_text(alloc, word)?,
+    })
+}
+
+pub fn hold_reply(alloc: Global, hold: bool) -> Result<JsonReply, AllocError>
+    ensures { IfOk result (λ reply. json_reply reply.status (string_bytes reply.body) ≡ status_reply (hold_word hold)) }
+{
+    if hold {
+        status_reply(alloc, "ON")
+    } else {
+        status_reply(alloc, "OFF")
+    }
+}
+
+pub fn versioning_reply(alloc: Global, enabled: bool) -> Result<JsonReply, AllocError>
+    ensures { IfOk result (λ reply. json_reply reply.status (string_bytes reply.body) ≡ status_reply (versioning_word enabled)) }
+{
+    if enabled {
+        status_reply(alloc, "Enabled")
+    } else {
+        status_reply(alloc, "Suspended")
+    }
+}
+
+pub fn listing_reply(alloc: Global, listing: &Listing) -> Result<JsonReply, AllocError>
+    ensures { IfOk result (λ reply. json_reply reply.status (string_bytes reply.body) ≡ json_reply 200 (compact_text (listing_data listing.now))) }
+{
+    Ok(JsonReply {
+        status: StatusCode::OK,
+        body: listing_text(alloc, listing)?,
+    })
 }
 
 pub fn fault_reply(alloc: Global, fault: DeskFault) -> Result<JsonReply, AllocError>

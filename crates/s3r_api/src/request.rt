@@ -6,7 +6,7 @@ ghost use Rattle.percent_encoding.specs.Percent.{percent_decode};
 ghost use Rattle.s3r_http.specs.Lines.{is_alike};
 ghost use Rattle.s3r_desk.specs.Steps.{IsRequest};
 ghost use Rattle.s3r_api.specs.Problems.{Gives, IsOfRequest};
-ghost use Rattle.s3r_api.specs.Request.{is_method, is_head, has_line, bucket_named, key_named, creates_bucket, puts_object, gets_object, bucket_request, object_asked, object_request, request_of};
+ghost use Rattle.s3r_api.specs.Request.{is_method, is_head, has_line, bucket_named, key_named, creates_bucket, puts_object, gets_object, deletes, heads_bucket, bucket_asked, object_read, bucket_request, object_asked, object_request, request_of};
 
 use crate::location::region_of;
 use crate::problem::Problem;
@@ -96,6 +96,30 @@ fn gets_object(raw: &RawRequest) -> bool
     !has_query(raw.target.as_slice()) && (is_method(raw, "GET") || is_head(raw))
 }
 
+fn deletes(raw: &RawRequest) -> bool
+    ensures { result ≡ deletes raw.now }
+{
+    !has_query(raw.target.as_slice()) && is_method(raw, "DELETE")
+}
+
+fn heads_bucket(raw: &RawRequest) -> bool
+    ensures { result ≡ heads_bucket raw.now }
+{
+    !has_query(raw.target.as_slice()) && is_head(raw)
+}
+
+fn bucket_asked(raw: &RawRequest, name: BucketName) -> Result<Request, Problem>
+    ensures { Gives result (bucket_asked raw.now name) }
+{
+    if heads_bucket(raw) {
+        return Ok(Request::HeadBucket { name });
+    }
+    if deletes(raw) {
+        return Ok(Request::DeleteBucket { name });
+    }
+    Err(Problem::UnknownQuery)
+}
+
 /// What is asked of a bucket.
 #[tactic(auto, unfolding(crate::specs::Request::bucket_request))]
 fn bucket_request(alloc: Global, raw: &RawRequest, bytes: &[u8]) -> Result<Request, Problem>
@@ -103,7 +127,7 @@ fn bucket_request(alloc: Global, raw: &RawRequest, bytes: &[u8]) -> Result<Reque
 {
     let name = bucket_named(alloc, bytes)?;
     if !creates_bucket(raw) {
-        return Err(Problem::UnknownQuery);
+        return bucket_asked(raw, name);
     }
     let region = region_of(alloc, raw.body.as_slice())?;
     Ok(Request::CreateBucket {
@@ -111,6 +135,26 @@ fn bucket_request(alloc: Global, raw: &RawRequest, bytes: &[u8]) -> Result<Reque
         region,
         locked: false,
     })
+}
+
+fn object_read(raw: &RawRequest, bucket: BucketName, key: Key) -> Result<Request, Problem>
+    ensures { Gives result (object_read raw.now bucket key) }
+{
+    if gets_object(raw) {
+        return Ok(Request::GetObject {
+            bucket,
+            key,
+            version: None,
+        });
+    }
+    if deletes(raw) {
+        return Ok(Request::DeleteObject {
+            bucket,
+            key,
+            version: None,
+        });
+    }
+    Err(Problem::UnknownQuery)
 }
 
 fn object_asked(
@@ -131,10 +175,7 @@ fn object_asked(
             class: ClassName::standard(alloc)?,
         });
     }
-    if gets_object(raw) {
-        return Ok(Request::GetObject { bucket, key });
-    }
-    Err(Problem::UnknownQuery)
+    object_read(raw, bucket, key)
 }
 
 /// What is asked of an object, its key being as it was written.

@@ -4,7 +4,7 @@ use crate::{Problem, answer_bytes, problem_bytes, to_request};
 use http::Method;
 use s3r_desk::{Answer, DeskFault, Refusal, Request};
 use s3r_http::{Field, Fields, RawRequest};
-use s3r_names::{Bytes, Text, VersionId};
+use s3r_names::{Bytes, ClassName, Text, VersionId};
 use std::alloc::{AllocError, Global};
 use std::test::Fail;
 
@@ -53,9 +53,13 @@ fn told(alloc: Global, outcome: Result<Request, Problem>) -> Result<String, Allo
             key.as_str(),
             class.as_str()
         ),
-        Ok(Request::GetObject { bucket, key }) => {
+        Ok(Request::GetObject { bucket, key, .. }) => {
             format!(in alloc; "get {} {}", bucket.as_str(), key.as_str())
         }
+        Ok(Request::DeleteObject { bucket, key, .. }) => {
+            format!(in alloc; "delete {} {}", bucket.as_str(), key.as_str())
+        }
+        Ok(other) => format!(in alloc; "{other:?}"),
         Err(problem) => format!(in alloc; "{problem:?}"),
     }
 }
@@ -85,7 +89,8 @@ fn targets(rt: HostRuntime) -> Result<(), Fail> {
             "UnknownQuery",
         ),
         ("put", "/aaa/k", "", "UnknownQuery"),
-        ("DELETE", "/aaa/k", "", "UnknownQuery"),
+        ("DELETE", "/aaa/k", "", "delete aaa k"),
+        ("DELETE", "/aaa/k?versionId=x", "", "UnknownQuery"),
         ("GET", "/aaa", "", "UnknownQuery"),
         ("GET", "/aaa/k?", "", "UnknownQuery"),
         ("GET", "/aa?x", "", "InvalidBucketName"),
@@ -228,6 +233,20 @@ fn refusals(rt: HostRuntime) -> Result<(), Fail> {
     Ok(())
 }
 
+fn object(
+    alloc: Global,
+    id: VersionId,
+    body: Bytes,
+) -> Result<Result<Answer, DeskFault>, AllocError> {
+    Ok(Ok(Answer::Object {
+        id,
+        class: ClassName::standard(alloc)?,
+        locked: false,
+        hold: false,
+        body,
+    }))
+}
+
 #[test]
 fn answers(rt: HostRuntime) -> Result<(), Fail> {
     let alloc = rt.alloc();
@@ -240,7 +259,7 @@ fn answers(rt: HostRuntime) -> Result<(), Fail> {
         "HTTP/1.1 200 OK\r\nContent-Length: 0\r\nx-amz-version-id: 0-000000000000001a\r\nConnection: close\r\n\r\n";
     assert_eq!(rt; text.as_slice(), want.as_bytes());
     let body = Bytes::from_slice(alloc, b"hi")?;
-    let text = answer_bytes(alloc, &Ok(Answer::Object { id, body }), true, false)?;
+    let text = answer_bytes(alloc, &object(alloc, id, body)?, true, false)?;
     let want =
         "HTTP/1.1 200 OK\r\nContent-Length: 2\r\nx-amz-version-id: 0-000000000000001a\r\n\r\n";
     assert_eq!(rt; text.as_slice(), want.as_bytes());

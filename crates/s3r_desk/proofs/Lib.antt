@@ -8,3 +8,4 @@ pub mod CommitsMade
 pub mod Homes
 pub mod Coming
 mod Responding
+pub mod Ids

@@ -1,41 +1,39 @@
--- What stores show of buckets and versions.
-use Rattle.std.specs.Prelude.{ℕ, Bool, nat_lt, List, Option, Some, None, is_some, slice_get, position, if◌then◌else◌}
-use Rattle.std.specs.Option.{option_and_then}
-use Rattle.s3r_versions.specs.Lookup.{latest}
-use Rattle.s3r_history.specs.Words.{Name}
+-- What stores tell of buckets.
+use Rattle.std.specs.Prelude.{◌≡◌, ℕ, nat_lt, List, Option, Some, None, Result, Ok, Err, slice_get, if◌then◌else◌}
+use Rattle.std.specs.Borrow.{Bor}
 use Rattle.s3r_history.specs.Past.{Entry}
-use Rattle.s3r_history.specs.declared.refusal.Refusal.TheVariants as refusals
+use Rattle.s3r_history.specs.declared.refusal.Refusal.{Refusal}
+use Rattle.std.specs.Option.{option_and_then}
+use Rattle.s3r_history.specs.Words.{Name}
+use Rattle.s3r_history.specs.Told.{Told}
 use Rattle.s3r_region.specs.declared.bucket.Bucket.{Bucket}
 use Rattle.s3r_region.specs.Contents.{Contents}
-use Rattle.s3r_region.specs.After.{seen_bucket}
+use Rattle.s3r_region.specs.After.{seen_bucket, seen, told_by}
 use Rattle.s3r_store.specs.declared.store.Store.{Store}
 use Rattle.s3r_store.specs.Stores.{state_of}
-use Rattle.s3r_desk.specs.declared.request.Answer.{Answer}
-use Rattle.s3r_desk.specs.declared.request.Answer.TheVariants as answer
+use Rattle.s3r_desk.specs.declared.home.Home as declared
+use Rattle.s3r_desk.specs.Steps.{Home, Views}
 
 abbrev pub bucket_in : Name → Store → Option Bucket
 bucket_in b store = option_and_then (λ (state : Contents). seen_bucket state b) (state_of store)
 
-abbrev pub shows_bucket : Name → Store → Bool
-shows_bucket b store = is_some (bucket_in b store)
+abbrev pub told_in : Name → Store → Option Told
+told_in b store = option_and_then (λ (state : Contents). seen state b) (state_of store)
 
--- the latest version of a key in the store's bucket
-abbrev pub latest_in : Name → Name → Store → Option Entry
-latest_in b key store = option_and_then (λ (bucket : Bucket). latest key bucket.rows.rows) (bucket_in b store)
+-- what so many stores tell, one for each region
+abbrev pub views_of : List Store → Views
+views_of stores r b = option_and_then (told_in b) (slice_get stores r)
+
+-- the region of a bucket, and what it tells of it
+abbrev pub seen_home : declared.Home → Home
+seen_home h = record { region = h.region; told = told_by h.bucket.now }
 
 -- a region by its number, where there are so many
 abbrev pub region_in : Option ℕ → ℕ → Option ℕ
 region_in None n = None
 region_in (Some r) n = if nat_lt r n then Some r else None
 
-abbrev pub reply_of : Option Entry → Answer
-reply_of None = answer.Refused refusals.NoSuchKey
-reply_of (Some row) = answer.Object row.id row.body
-
--- what a GET shows, from the first store that has the bucket
-abbrev pub got_at : Name → Name → List Store → Option ℕ → Answer
-got_at b key stores None = answer.Refused refusals.NoSuchBucket
-got_at b key stores (Some r) = reply_of (option_and_then (latest_in b key) (slice_get stores r))
-
-abbrev pub got : Name → Name → List Store → Answer
-got b key stores = got_at b key stores (position (shows_bucket b) stores)
+-- the version that is asked for was found, or is refused so
+abbrev pub Finds : Result Entry Refusal → Result (Bor Entry) Refusal → Type 0
+Finds asked (Ok row) = asked ≡ Ok row.now
+Finds asked (Err why) = asked ≡ Err why

@@ -15,7 +15,9 @@ use Rattle.s3r_desk.specs.declared.fault.DeskFault.TheVariants as faults
 use Rattle.s3r_desk.specs.declared.request.Request.{Request}
 use Rattle.s3r_desk.specs.declared.request.Answer.{Answer}
 use Rattle.s3r_desk.specs.Events.{found, began, answered, Events, known, history_at}
-use Rattle.s3r_desk.specs.Steps.{Commit, Step, step, put_in, made, FitRooms}
+use Rattle.s3r_desk.specs.declared.planning.Plan.TheVariants.{Commits}
+use Rattle.s3r_desk.specs.declared.planning.Reply.{Reply}
+use Rattle.s3r_desk.specs.Steps.{Commit, Step, step, made_of, made, FitRooms}
 use Rattle.s3r_desk.specs.Keeping.{Keeps}
 use Rattle.s3r_desk.specs.Progress.{Happens}
 
@@ -45,7 +47,7 @@ pub record PassesRoom (room : ℕ → ℕ) (v : ℕ) (at : ℕ → History) (com
 -- what a request comes to where all histories are known: its step, whole, or its commit in doubt, or none
 abbrev pub Comes : (ℕ → ℕ) → (ℕ → History) → List Commit → Answer → Events → Result Answer DeskFault → Type 0
 Comes room at commits reply events (Ok a) = (a ≡ reply) × (events ≡ made at commits) × FitRooms room at commits
-Comes room at commits reply events (Err (faults.Volume v)) = IsBegun commits events
+Comes room at commits reply events (Err (faults.Volume v)) = (begun : IsBegun commits events) × (begun.commit.region ≡ v)
 Comes room at commits reply events (Err (faults.Full v)) = (events ≡ []) × PassesRoom room v at commits
 Comes room at commits reply events (Err (faults.Damaged v offset)) = ⊥
 Comes room at commits reply events (Err faults.OutOfMemory) = (events ≡ []) ⊎ IsBegun commits events
@@ -92,12 +94,12 @@ pub record Touches (before : Events) (a b : List Store) (old new : Outside) : Ty
 -- A command was committed to a region of this history, or not.
 abbrev pub CommitsOne : Events → ℕ → ℕ → History → Command → ℕ → Result Committed DeskFault → List Store → Outside → Outside → Type 0
 CommitsOne before n r h c room (Ok (committed.At index)) b old new =
-    (index ≡ length h + 1) × (refusal h c ≡ None) × (length_with r h c ≤ room) × Keeps (found r (c ∷ h) ∷ began r c ∷ before) b new × Happens n (found r (c ∷ h) ∷ began r c ∷ []) old new
-CommitsOne before n r h c room (Ok (committed.Refused why)) b old new = (refusal h c ≡ Some why) × Keeps before b new × Happens n [] old new
-CommitsOne before n r h c room (Err (faults.Volume v)) b old new = (v ≡ r) × (refusal h c ≡ None) × Keeps (began r c ∷ before) b new × Happens n (began r c ∷ []) old new
-CommitsOne before n r h c room (Err (faults.Full v)) b old new = (v ≡ r) × (refusal h c ≡ None) × (room < length_with r h c) × Keeps before b new × Happens n [] old new
+    (index ≡ length h + 1) × (refusal r h c ≡ None) × (length_with r h c ≤ room) × Keeps (found r (c ∷ h) ∷ began r c ∷ before) b new × Happens n (found r (c ∷ h) ∷ began r c ∷ []) old new
+CommitsOne before n r h c room (Ok (committed.Refused why)) b old new = (refusal r h c ≡ Some why) × Keeps before b new × Happens n [] old new
+CommitsOne before n r h c room (Err (faults.Volume v)) b old new = (v ≡ r) × (refusal r h c ≡ None) × Keeps (began r c ∷ before) b new × Happens n (began r c ∷ []) old new
+CommitsOne before n r h c room (Err (faults.Full v)) b old new = (v ≡ r) × (refusal r h c ≡ None) × (room < length_with r h c) × Keeps before b new × Happens n [] old new
 CommitsOne before n r h c room (Err (faults.Damaged v offset)) b old new = ⊥
-CommitsOne before n r h c room (Err faults.OutOfMemory) b old new = (refusal h c ≡ None) × Keeps (began r c ∷ before) b new × Happens n (began r c ∷ []) old new
+CommitsOne before n r h c room (Err faults.OutOfMemory) b old new = (refusal r h c ≡ None) × Keeps (began r c ∷ before) b new × Happens n (began r c ∷ []) old new
 
 -- A step was made, all regions being read: whole, or its commit is in doubt, or nothing was done.
 pub record Came (before : Events) (s : Step) (result : Result Answer DeskFault) (room : ℕ → ℕ) (a b : List Store) (old new : Outside) : Type 0 where
@@ -110,9 +112,9 @@ pub record Came (before : Events) (s : Step) (result : Result Answer DeskFault) 
 abbrev pub Answers : Events → Request → Result Answer DeskFault → (ℕ → ℕ) → List Store → List Store → Outside → Outside → Type 0
 Answers before request result room a b old new = Came before (step (length a) (history_at before) request) result room a b old new
 
--- a version was put into the bucket's region
-abbrev pub Puts : Events → Option ℕ → Command → Result Answer DeskFault → (ℕ → ℕ) → List Store → List Store → Outside → Outside → Type 0
-Puts before home c result room a b old new = Came before (put_in (history_at before) c home) result room a b old new
+-- a command was committed to a region, and answered so
+abbrev pub Makes : Events → ℕ → Command → Reply → Result Answer DeskFault → (ℕ → ℕ) → List Store → List Store → Outside → Outside → Type 0
+Makes before r c reply result room a b old new = Came before (made_of (history_at before) (Commits r c reply)) result room a b old new
 
 -- The desk did this at a request.
 pub record Responds (before : Events) (request : Request) (result : Result Answer DeskFault) (room : ℕ → ℕ) (a b : List Store) (old new : Outside) : Type 0 where

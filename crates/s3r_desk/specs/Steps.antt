@@ -1,13 +1,17 @@
 -- What each request comes to, by the histories of all regions.
-use Rattle.std.specs.Prelude.{ℕ, zero, suc, ◌+◌, ◌≤◌, ◌==◌, nat_lt, List, [], ◌∷◌, ◌++◌, length, Option, Some, None, is_some, if◌then◌else◌}
+use Rattle.std.specs.Prelude.{ℕ, zero, suc, ◌+◌, ◌<◌, ◌≤◌, ◌==◌, Bool, true, false, nat_lt, List, [], ◌∷◌, ◌++◌, length, Option, Some, None, Result, Ok, Err, is_some, if◌then◌else◌, IsTrue}
+use Rattle.s3r_names.specs.declared.version.VersionId.{VersionId}
+use Rattle.s3r_names.specs.Version.{IsVersionId}
+use Rattle.s3r_names.specs.Tags.{is_tag_set}
 use Rattle.s3r_record.specs.declared.command.Command.{Command}
 use Rattle.s3r_record.specs.declared.command.Command.TheVariants as command
 use Rattle.s3r_record.specs.Spelling.{IsCommand}
+use Rattle.s3r_versions.specs.Lookup.{find_version, latest}
+use Rattle.s3r_versions.specs.Listing.{is_place_there, listing}
+use Rattle.s3r_versions.specs.declared.listing.Place.{Place}
 use Rattle.s3r_history.specs.Words.{Name, History}
-use Rattle.s3r_history.specs.Buckets.{is_there}
 use Rattle.s3r_history.specs.Past.{Entry}
-use Rattle.s3r_history.specs.Deeds.{deeds}
-use Rattle.s3r_history.specs.Rows.{latest}
+use Rattle.s3r_history.specs.Told.{Told, told}
 use Rattle.s3r_history.specs.Accepts.{refusal}
 use Rattle.s3r_history.specs.declared.refusal.Refusal.{Refusal}
 use Rattle.s3r_history.specs.declared.refusal.Refusal.TheVariants as refusals
@@ -16,11 +20,128 @@ use Rattle.s3r_desk.specs.declared.request.Request.{Request}
 use Rattle.s3r_desk.specs.declared.request.Request.TheVariants as request
 use Rattle.s3r_desk.specs.declared.request.Answer.{Answer}
 use Rattle.s3r_desk.specs.declared.request.Answer.TheVariants as answer
+use Rattle.s3r_desk.specs.declared.planning.Plan.{Plan}
+use Rattle.s3r_desk.specs.declared.planning.Plan.TheVariants.{Shows, Commits}
+use Rattle.s3r_desk.specs.declared.planning.Reply.{Reply}
+use Rattle.s3r_desk.specs.declared.planning.Reply.TheVariants.{Is, Written, Marked}
 use Rattle.s3r_desk.specs.Events.{found, began, Events}
 
 -- each region's history
 abbrev pub Histories : Type 0
 Histories = ℕ → History
+
+-- ---- what a request is answered, and what it commits
+
+-- what each region tells of a bucket's name
+abbrev pub Views : Type 0
+Views = ℕ → Name → Option Told
+
+abbrev pub refuses : Refusal → Plan
+refuses why = Shows (answer.Refused why)
+
+-- the region that has a bucket, and what it tells of it
+pub record Home : Type 0 where
+  pub region : ℕ
+  pub told : Told
+
+abbrev pub or_home : ℕ → Option Told → Option Home → Option Home
+or_home r None other = other
+or_home r (Some t) other = Some (record { region = r; told = t })
+
+-- the first of so many regions, from r on, that has the bucket
+abbrev pub home_from : ℕ → ℕ → Views → Name → Option Home
+home_from r zero views b = None
+home_from r (suc n) views b = or_home r (views r b) (home_from (r + 1) n views b)
+
+-- the least of n regions that has the bucket
+abbrev pub home : ℕ → Views → Name → Option Home
+home n views b = home_from 0 n views b
+
+abbrev pub at_home : (Home → Plan) → Option Home → Plan
+at_home plan None = refuses refusals.NoSuchBucket
+at_home plan (Some h) = plan h
+
+abbrev pub commits_at : Home → Command → Reply → Plan
+commits_at h c reply = Commits h.region c reply
+
+-- the version of the key that is named, or the latest
+abbrev pub sought : Name → Option VersionId → Told → Option Entry
+sought key None at = latest key at.rows
+sought key (Some id) at = find_version key id at.rows
+
+-- there is none
+abbrev pub missing : Option VersionId → Refusal
+missing None = refusals.NoSuchKey
+missing (Some id) = refusals.NoSuchVersion
+
+-- it is a marker
+abbrev pub hidden : Option VersionId → Refusal
+hidden None = refusals.NoSuchKey
+hidden (Some id) = refusals.MethodNotAllowed
+
+abbrev pub object_of : Option VersionId → Option Entry → Result Entry Refusal
+object_of version None = Err (missing version)
+object_of version (Some row) = if row.marker then Err (hidden version) else Ok row
+
+-- the version that is asked for, unless it isn't there or is a marker
+abbrev pub object_at : Name → Option VersionId → Home → Result Entry Refusal
+object_at key version h = object_of version (sought key version h.told)
+
+abbrev pub with_object : (Entry → Plan) → Result Entry Refusal → Plan
+with_object plan (Err why) = refuses why
+with_object plan (Ok row) = plan row
+
+-- under Object Lock alone
+abbrev pub if_locked : Home → Plan → Plan
+if_locked h plan = if h.told.locked then plan else refuses refusals.LockNeeded
+
+-- a new bucket, in the region that is asked for where that is there, and no region has its name
+abbrev pub creation : ℕ → Name → Bool → Option Home → Option ℕ → Plan
+creation n name locked there None = refuses refusals.InvalidLocation
+creation n name locked there (Some r) =
+    if nat_lt r n then (if is_some there then refuses refusals.BucketAlreadyExists else Commits r (command.CreateBucket name locked) (Is answer.Done)) else refuses refusals.InvalidLocation
+
+abbrev pub page : List ℕ → Option Place → ℕ → Told → Plan
+page prefix after limit at = if is_place_there after at.rows then Shows (answer.Listing (listing prefix after limit at.rows)) else refuses refusals.NoSuchVersion
+
+-- a version with its body, or a marker in its place
+abbrev pub object_shown : Option VersionId → Bool → Entry → Plan
+object_shown version locked row = if row.marker then Shows (answer.MarkerThere row.id (is_some version)) else Shows (answer.Object row.id row.class locked row.hold row.body)
+
+abbrev pub shown : Option VersionId → Bool → Option Entry → Plan
+shown version locked None = refuses (missing version)
+shown version locked (Some row) = object_shown version locked row
+
+-- a version is removed where it is there
+abbrev pub removal : Home → Name → Name → VersionId → Option Entry → Plan
+removal h b key id None = Shows (answer.Gone (Some id) false)
+removal h b key id (Some row) = commits_at h (command.Remove b key id) (Is (answer.Gone (Some id) row.marker))
+
+abbrev pub deletion : Name → Name → Option VersionId → Home → Plan
+deletion b key None h = commits_at h (command.Marker b key) Marked
+deletion b key (Some id) h = removal h b key id (find_version key id h.told.rows)
+
+abbrev pub tags_reply : Bool → VersionId → Reply
+tags_reply gone id = if gone then Is (answer.Gone (Some id) false) else Is (answer.Written id)
+
+abbrev pub plan : ℕ → Views → Request → Plan
+plan n views (request.CreateBucket name region locked) = creation n name locked (home n views name) region
+plan n views (request.HeadBucket name) = at_home (λ h. Shows answer.Done) (home n views name)
+plan n views (request.DeleteBucket name) = at_home (λ h. commits_at h (command.DeleteBucket name) (Is (answer.Gone None false))) (home n views name)
+plan n views (request.PutVersioning name enabled) = at_home (λ h. commits_at h (command.SetVersioning name enabled) (Is answer.Done)) (home n views name)
+plan n views (request.GetVersioning name) = at_home (λ h. Shows (answer.Versioning h.told.enabled)) (home n views name)
+plan n views (request.ListVersions name prefix after limit) = at_home (λ h. page prefix after limit h.told) (home n views name)
+plan n views (request.PutObject b key body tags hold class) = at_home (λ h. commits_at h (command.Put b key tags hold class body) Written) (home n views b)
+plan n views (request.GetObject b key version) = at_home (λ h. shown version h.told.locked (sought key version h.told)) (home n views b)
+plan n views (request.DeleteObject b key version) = at_home (deletion b key version) (home n views b)
+plan n views (request.PutTags b key version tags gone) =
+    at_home (λ h. with_object (λ row. commits_at h (command.SetTags b key row.id tags) (tags_reply gone row.id)) (object_at key version h)) (home n views b)
+plan n views (request.GetTags b key version) = at_home (λ h. with_object (λ row. Shows (answer.TagSet row.tags)) (object_at key version h)) (home n views b)
+plan n views (request.PutHold b key version hold) =
+    at_home (λ h. if_locked h (with_object (λ row. commits_at h (command.SetHold b key row.id hold) (Is (answer.Written row.id))) (object_at key version h))) (home n views b)
+plan n views (request.GetHold b key version) = at_home (λ h. if_locked h (with_object (λ row. Shows (answer.Hold row.hold)) (object_at key version h))) (home n views b)
+
+-- ---- the step
 
 -- a command, and the region to which it is committed
 pub record Commit : Type 0 where
@@ -32,58 +153,54 @@ pub record Step : Type 0 where
   pub commits : List Commit
   pub reply : Answer
 
--- the first of so many regions, from r on, that has the bucket
-abbrev pub home_from : ℕ → ℕ → Histories → Name → Option ℕ
-home_from r zero at b = None
-home_from r (suc n) at b = if is_there (at r) b then Some r else home_from (r + 1) n at b
-
--- the least of n regions that has the bucket
-abbrev pub home : ℕ → Histories → Name → Option ℕ
-home n at b = home_from 0 n at b
-
-abbrev pub shows : Answer → Step
-shows reply = record { commits = []; reply = reply }
-
-abbrev pub refuses : Refusal → Step
-refuses why = shows (answer.Refused why)
+abbrev pub answers : Answer → Step
+answers reply = record { commits = []; reply = reply }
 
 -- the command is committed where the region's history accepts it
 abbrev pub commits_unless : Option Refusal → Commit → Answer → Step
 commits_unless None commit reply = record { commits = commit ∷ []; reply = reply }
-commits_unless (Some why) commit reply = refuses why
+commits_unless (Some why) commit reply = answers (answer.Refused why)
 
 abbrev pub commits_to : Histories → ℕ → Command → Answer → Step
-commits_to at r c reply = commits_unless (refusal (at r) c) (record { region = r; command = c }) reply
+commits_to at r c reply = commits_unless (refusal r (at r) c) (record { region = r; command = c }) reply
 
--- in the region that is asked for, where it is there and no region has the bucket
-abbrev pub create_in : ℕ → Histories → Command → Name → Option ℕ → Step
-create_in n at c name None = refuses refusals.InvalidLocation
-create_in n at c name (Some r) =
-    if nat_lt r n then (if is_some (home n at name) then refuses refusals.BucketAlreadyExists else commits_to at r c answer.Done) else refuses refusals.InvalidLocation
+-- the answer to a commit of this index in its region's history
+abbrev pub reply_at : ℕ → ℕ → Reply → Answer
+reply_at r index (Is reply) = reply
+reply_at r index Written = answer.Written (record { region = r; index = index })
+reply_at r index Marked = answer.Gone (Some (record { region = r; index = index })) true
 
--- in the region of its bucket
-abbrev pub put_in : Histories → Command → Option ℕ → Step
-put_in at c None = refuses refusals.NoSuchBucket
-put_in at c (Some r) = commits_to at r c (answer.Written (record { region = r; index = length (at r) + 1 }))
+abbrev pub made_of : Histories → Plan → Step
+made_of at (Shows reply) = answers reply
+made_of at (Commits r c reply) = commits_to at r c (reply_at r (length (at r) + 1) reply)
 
-abbrev pub shown : Option Entry → Step
-shown None = refuses refusals.NoSuchKey
-shown (Some row) = shows (answer.Object row.id row.body)
-
-abbrev pub get_in : Histories → Name → Name → Option ℕ → Step
-get_in at b key None = refuses refusals.NoSuchBucket
-get_in at b key (Some r) = shown (latest (deeds r (at r)) b key)
+-- what the histories tell of buckets
+abbrev pub views : Histories → Views
+views at r b = told r (at r) b
 
 abbrev pub step : ℕ → Histories → Request → Step
-step n at (request.CreateBucket name region locked) = create_in n at (command.CreateBucket name locked) name region
-step n at (request.PutObject b key body tags hold class) = put_in at (command.Put b key tags hold class body) (home n at b)
-step n at (request.GetObject b key) = get_in at b key (home n at b)
+step n at request = made_of at (plan n (views at) request)
+
+-- an id that is named meets its rule
+abbrev pub IsNamed : Option VersionId → Type 0
+IsNamed None = Unit {0}
+IsNamed (Some id) = IsVersionId id
 
 -- each part of a request meets its type's rule
 abbrev pub IsRequest : Request → Type 0
 IsRequest (request.CreateBucket name region locked) = IsCommand (command.CreateBucket name locked)
+IsRequest (request.HeadBucket name) = Unit {0}
+IsRequest (request.DeleteBucket name) = IsCommand (command.DeleteBucket name)
+IsRequest (request.PutVersioning name enabled) = IsCommand (command.SetVersioning name enabled)
+IsRequest (request.GetVersioning name) = Unit {0}
+IsRequest (request.ListVersions name prefix after limit) = 1 ≤ limit
 IsRequest (request.PutObject b key body tags hold class) = IsCommand (command.Put b key tags hold class body)
-IsRequest (request.GetObject b key) = Unit {0}
+IsRequest (request.GetObject b key version) = Unit {0}
+IsRequest (request.DeleteObject b key version) = IsCommand (command.Marker b key) × IsNamed version
+IsRequest (request.PutTags b key version tags gone) = IsCommand (command.Marker b key) × IsTrue (is_tag_set tags)
+IsRequest (request.GetTags b key version) = Unit {0}
+IsRequest (request.PutHold b key version hold) = IsCommand (command.Marker b key)
+IsRequest (request.GetHold b key version) = Unit {0}
 
 -- the histories with one command more
 abbrev pub after_commit : Commit → Histories → Histories
@@ -98,3 +215,8 @@ made at (commit ∷ commits) = made (after_commit commit at) commits ++ found co
 abbrev pub FitRooms : (ℕ → ℕ) → Histories → List Commit → Type 0
 FitRooms room at [] = Unit {0}
 FitRooms room at (commit ∷ commits) = (length_with commit.region (at commit.region) commit.command ≤ room commit.region) × FitRooms room (after_commit commit at) commits
+
+-- a command that is planned meets its fields' rules, and goes to one of n regions
+abbrev pub FitsIn : ℕ → Plan → Type 0
+FitsIn n (Shows reply) = Unit {0}
+FitsIn n (Commits r c reply) = (r < n) × IsCommand c

@@ -5,6 +5,9 @@ mod answering;
 mod committing;
 mod desk;
 mod fault;
+mod finding;
+mod home;
+mod planning;
 mod request;
 mod touching;
 
@@ -12,6 +15,7 @@ pub use desk::Desk;
 pub use fault::DeskFault;
 pub use request::{Answer, Request};
 pub use s3r_history::Refusal;
+pub use s3r_versions::{Entries, Listed, Listing, Place};
 
 #[cfg(test)]
 mod tests;

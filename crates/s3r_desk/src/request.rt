@@ -1,8 +1,10 @@
 //! What is asked of the desk, and what it answers.
 use s3r_history::Refusal;
-use s3r_names::{BucketName, Bytes, ClassName, Key, TagSet, VersionId};
+use s3r_names::{BucketName, Bytes, ClassName, Key, TagSet, Text, VersionId};
+use s3r_versions::{Listing, Place};
 
-/// A request, read and not looked at further. Its body has at most 4,194,304 bytes.
+/// A request, read and not looked at further. A version that isn't named is the latest of the key. A body has at most
+/// 4,194,304 bytes.
 #[derive(Debug, Drop)]
 pub enum Request {
     /// A new bucket in a region. None stands for a word that is no region's.
@@ -10,6 +12,29 @@ pub enum Request {
         name: BucketName,
         region: Option<u32>,
         locked: bool,
+    },
+    /// Whether the bucket is there.
+    HeadBucket {
+        name: BucketName,
+    },
+    DeleteBucket {
+        name: BucketName,
+    },
+    /// Versioning is Enabled from now on, or Suspended.
+    PutVersioning {
+        name: BucketName,
+        enabled: bool,
+    },
+    GetVersioning {
+        name: BucketName,
+    },
+    /// The first versions and markers whose keys begin with the prefix, behind a place: at most `limit`, which is at
+    /// least 1.
+    ListVersions {
+        name: BucketName,
+        prefix: Text,
+        after: Option<Place>,
+        limit: usize,
     },
     /// A new version of an object.
     PutObject {
@@ -20,10 +45,43 @@ pub enum Request {
         hold: bool,
         class: ClassName,
     },
-    /// The latest version of an object.
+    /// A version of an object, with its body.
     GetObject {
         bucket: BucketName,
         key: Key,
+        version: Option<VersionId>,
+    },
+    /// A marker over the object's versions, or the removal of the one that is named.
+    DeleteObject {
+        bucket: BucketName,
+        key: Key,
+        version: Option<VersionId>,
+    },
+    /// The tags of a version in place of those that it has. `gone` says that there are to be none, and how that is
+    /// answered.
+    PutTags {
+        bucket: BucketName,
+        key: Key,
+        version: Option<VersionId>,
+        tags: TagSet,
+        gone: bool,
+    },
+    GetTags {
+        bucket: BucketName,
+        key: Key,
+        version: Option<VersionId>,
+    },
+    /// A version's legal hold is ON from now on, or OFF.
+    PutHold {
+        bucket: BucketName,
+        key: Key,
+        version: Option<VersionId>,
+        hold: bool,
+    },
+    GetHold {
+        bucket: BucketName,
+        key: Key,
+        version: Option<VersionId>,
     },
 }
 
@@ -32,10 +90,33 @@ pub enum Request {
 pub enum Answer {
     /// It is refused, and nothing was done.
     Refused(Refusal),
-    /// The bucket was made.
+    /// It was done, or the bucket is there.
     Done,
-    /// A version was written.
+    /// The version was written, or its tags or hold were.
     Written(VersionId),
+    /// A bucket, a version or its tags are gone, or a marker was written. `marker` says that the version is one.
+    Gone {
+        id: Option<VersionId>,
+        marker: bool,
+    },
     /// A version and its body.
-    Object { id: VersionId, body: Bytes },
+    Object {
+        id: VersionId,
+        class: ClassName,
+        /// Whether its bucket has Object Lock.
+        locked: bool,
+        hold: bool,
+        body: Bytes,
+    },
+    /// A marker stands in place of a version. `named` says that it was asked for by its id.
+    MarkerThere {
+        id: VersionId,
+        named: bool,
+    },
+    TagSet(TagSet),
+    /// Whether a legal hold is ON.
+    Hold(bool),
+    /// Whether versioning is Enabled.
+    Versioning(bool),
+    Listing(Listing),
 }

@@ -1,23 +1,29 @@
 // A desk over a world in memory.
 ghost use Rattle.std.specs.Prelude.{◌≡◌, ◌≤◌, IsTrue, IfOk, length};
+ghost use Rattle.s3r_names.specs.Version.{IsVersionId};
 ghost use Rattle.s3r_world.specs.Outside.{KeepsShape};
 ghost use Rattle.s3r_desk.specs.Events.{Events};
 ghost use Rattle.s3r_desk.specs.Steps.{IsRequest};
 ghost use Rattle.s3r_desk.specs.Keeping.{Keeps, AreNumbered};
 
 use crate::*;
-use s3r_names::{BucketName, Bytes, ClassName, Key, NameFault, TagSet};
+use s3r_names::{BucketName, Bytes, ClassName, Key, NameFault, TagSet, Text, VersionId};
 use s3r_world::{MemoryWorld, Side, World};
 use std::alloc::{AllocError, Global};
 use std::process::Abort;
 use std::test::Fail;
 
-// What is asked: a bucket in a region, a version of a key, or its latest one.
+// What is asked of the bucket `abc` and its key `k`. A version is named by its index in the second region.
 #[derive(Clone, Copy, Debug)]
 enum Ask {
     Create(Option<u32>),
     Put,
     Get(&'static [u8], &'static [u8]),
+    Delete(Option<u64>),
+    List,
+    Switch(bool),
+    Head,
+    DeleteBucket,
 }
 
 fn create(alloc: Global, region: Option<u32>) -> Result<Request, NameFault>
@@ -49,7 +55,58 @@ fn get(alloc: Global, bucket: &[u8], key: &[u8]) -> Result<Request, NameFault>
     Ok(Request::GetObject {
         bucket: BucketName::read(alloc, bucket)?,
         key: Key::read(alloc, key)?,
+        version: None,
     })
+}
+
+fn id_of(index: u64) -> VersionId
+    ensures { IsVersionId result }
+{
+    VersionId {
+        region: 1,
+        index: index.max(1),
+    }
+}
+
+fn delete(alloc: Global, index: Option<u64>) -> Result<Request, NameFault>
+    ensures { IfOk result IsRequest }
+{
+    let bucket = BucketName::read(alloc, b"abc")?;
+    let key = Key::read(alloc, b"k")?;
+    match index {
+        Some(index) => Ok(Request::DeleteObject {
+            bucket,
+            key,
+            version: Some(id_of(index)),
+        }),
+        None => Ok(Request::DeleteObject {
+            bucket,
+            key,
+            version: None,
+        }),
+    }
+}
+
+fn list(alloc: Global) -> Result<Request, NameFault>
+    ensures { IfOk result IsRequest }
+{
+    Ok(Request::ListVersions {
+        name: BucketName::read(alloc, b"abc")?,
+        prefix: Text::from_str(alloc, "")?,
+        after: None,
+        limit: 1,
+    })
+}
+
+fn of_bucket(alloc: Global, ask: Ask) -> Result<Request, NameFault>
+    ensures { IfOk result IsRequest }
+{
+    let name = BucketName::read(alloc, b"abc")?;
+    match ask {
+        Ask::Switch(enabled) => Ok(Request::PutVersioning { name, enabled }),
+        Ask::DeleteBucket => Ok(Request::DeleteBucket { name }),
+        _ => Ok(Request::HeadBucket { name }),
+    }
 }
 
 fn request_of(alloc: Global, ask: Ask) -> Result<Request, NameFault>
@@ -59,12 +116,15 @@ fn request_of(alloc: Global, ask: Ask) -> Result<Request, NameFault>
         Ask::Create(region) => create(alloc, region),
         Ask::Put => put(alloc),
         Ask::Get(bucket, key) => get(alloc, bucket, key),
+        Ask::Delete(index) => delete(alloc, index),
+        Ask::List => list(alloc),
+        other => of_bucket(alloc, other),
     }
 }
 
 fn text_of(alloc: Global, answer: &Result<Answer, DeskFault>) -> Result<String, AllocError> {
     match answer {
-        Ok(Answer::Object { id, body }) => format!(in alloc; "{id:?} {:?}", body.as_slice()),
+        Ok(Answer::Object { id, body, .. }) => format!(in alloc; "{id:?} {:?}", body.as_slice()),
         other => format!(in alloc; "{other:?}"),
     }
 }
@@ -119,6 +179,33 @@ fn requests_in_turn(rt: HostRuntime) -> Result<(), Fail> {
         ),
         (Ask::Get(b"abc", b"l"), "Ok(Refused(NoSuchKey))"),
         (Ask::Get(b"abd", b"k"), "Ok(Refused(NoSuchBucket))"),
+        (Ask::DeleteBucket, "Ok(Refused(BucketNotEmpty))"),
+        (
+            Ask::Delete(None),
+            "Ok(Gone { id: Some(VersionId { region: 1, index: 3 }), marker: true })",
+        ),
+        (
+            Ask::Get(b"abc", b"k"),
+            "Ok(MarkerThere { id: VersionId { region: 1, index: 3 }, named: false })",
+        ),
+        (Ask::Switch(false), "Ok(Done)"),
+        (Ask::Put, "Ok(Refused(InvalidBucketState))"),
+        (Ask::Delete(None), "Ok(Refused(InvalidBucketState))"),
+        (
+            Ask::Delete(Some(9)),
+            "Ok(Gone { id: Some(VersionId { region: 1, index: 9 }), marker: false })",
+        ),
+        (
+            Ask::Delete(Some(3)),
+            "Ok(Gone { id: Some(VersionId { region: 1, index: 3 }), marker: true })",
+        ),
+        (
+            Ask::Delete(Some(2)),
+            "Ok(Gone { id: Some(VersionId { region: 1, index: 2 }), marker: false })",
+        ),
+        (Ask::Head, "Ok(Done)"),
+        (Ask::DeleteBucket, "Ok(Gone { id: None, marker: false })"),
+        (Ask::Head, "Ok(Refused(NoSuchBucket))"),
     ];
     let mut world = MemoryWorld::new(alloc, 2, 1000, Vec::new(alloc), Vec::new(alloc))?;
     expect_in_turn(&rt, alloc, &mut world, &rows)?;

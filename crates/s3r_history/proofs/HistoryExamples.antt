@@ -6,7 +6,9 @@ use Rattle.s3r_history.specs.Words.{Name, History}
 use Rattle.s3r_history.specs.Buckets.{bucket}
 use Rattle.s3r_history.specs.Past.{Entry, clock}
 use Rattle.s3r_history.specs.Deeds.{deeds}
-use Rattle.s3r_history.specs.Rows.{rows, latest}
+use Rattle.s3r_names.specs.declared.tags.Tag.{Tag}
+use Rattle.s3r_names.specs.declared.version.VersionId.{VersionId}
+use Rattle.s3r_history.specs.Rows.{rows, latest, removed}
 use Rattle.s3r_history.specs.declared.refusal.Refusal.TheVariants as refusals
 use Rattle.s3r_history.specs.Accepts.{refusal}
 
@@ -35,7 +37,7 @@ row n index body length = record {
 the_row : rows (deeds 0 one_put) (codes "abc") ≡ row 1 2 (codes "hi") 2 ∷ []
 the_row = refl
 
-the_bucket : bucket one_put (codes "abc") ≡ Some (record { birth = 1; locked = false })
+the_bucket : bucket one_put (codes "abc") ≡ Some (record { birth = 1; locked = false; enabled = true })
 the_bucket = refl
 
 no_other_bucket : bucket one_put (codes "abcd") ≡ None
@@ -53,19 +55,19 @@ the_latest = refl
 the_clock : clock (deeds 0 two_puts) ≡ 2
 the_clock = refl
 
-accepted : refusal one_put (put (codes "a") (codes "new")) ≡ None
+accepted : refusal 0 one_put (put (codes "a") (codes "new")) ≡ None
 accepted = refl
 
-twice : refusal one_put (command.CreateBucket (codes "abc") true) ≡ Some refusals.BucketAlreadyExists
+twice : refusal 0 one_put (command.CreateBucket (codes "abc") true) ≡ Some refusals.BucketAlreadyExists
 twice = refl
 
-nowhere : refusal [] (put (codes "a") (codes "hi")) ≡ Some refusals.NoSuchBucket
+nowhere : refusal 0 [] (put (codes "a") (codes "hi")) ≡ Some refusals.NoSuchBucket
 nowhere = refl
 
-hold_without_lock : refusal one_put (command.Put (codes "abc") (codes "a") [] true (codes "STANDARD") []) ≡ Some refusals.LockNeeded
+hold_without_lock : refusal 0 one_put (command.Put (codes "abc") (codes "a") [] true (codes "STANDARD") []) ≡ Some refusals.LockNeeded
 hold_without_lock = refl
 
-hold_with_lock : refusal (command.CreateBucket (codes "abc") true ∷ []) (command.Put (codes "abc") (codes "a") [] true (codes "STANDARD") []) ≡ None
+hold_with_lock : refusal 0 (command.CreateBucket (codes "abc") true ∷ []) (command.Put (codes "abc") (codes "a") [] true (codes "STANDARD") []) ≡ None
 hold_with_lock = refl
 
 -- so many buckets
@@ -73,8 +75,101 @@ abbrev creations : ℕ → History
 creations zero = []
 creations (suc n) = command.CreateBucket (n ∷ []) false ∷ creations n
 
-one_more : refusal (creations 99) (command.CreateBucket (codes "abc") false) ≡ None
+one_more : refusal 0 (creations 99) (command.CreateBucket (codes "abc") false) ≡ None
 one_more = refl
 
-too_many : refusal (creations 100) (command.CreateBucket (codes "abc") false) ≡ Some refusals.TooManyBuckets
+too_many : refusal 0 (creations 100) (command.CreateBucket (codes "abc") false) ≡ Some refusals.TooManyBuckets
 too_many = refl
+
+-- a marker, and the version before it
+abbrev one_marker : History
+one_marker = command.Marker (codes "abc") (codes "a") ∷ one_put
+
+the_marker : latest (deeds 0 one_marker) (codes "abc") (codes "a") ≡ Some (record (row 2 3 [] 0) { marker = true })
+the_marker = refl
+
+abbrev first_id : VersionId
+first_id = record { region = 0; index = 2 }
+
+abbrev remove : ℕ → Command
+remove index = command.Remove (codes "abc") (codes "a") (record { region = 0; index = index })
+
+removed_row : rows (deeds 0 (remove 2 ∷ one_marker)) (codes "abc") ≡ record (row 2 3 [] 0) { marker = true } ∷ []
+removed_row = refl
+
+-- versions that are put, and those that are removed later, among others
+removed_later : rows (deeds 0 (put (codes "a") (codes "new") ∷ remove 2 ∷ one_put)) (codes "abc") ≡ row 2 4 (codes "new") 3 ∷ []
+removed_later = refl
+
+removed_ids : removed (deeds 0 (remove 2 ∷ remove 3 ∷ one_marker)) (codes "abc") ≡ first_id ∷ record { region = 0; index = 3 } ∷ []
+removed_ids = refl
+
+-- another life of the bucket has neither rows nor removed ids of the one before
+abbrev born_again : History
+born_again = command.CreateBucket (codes "abc") false ∷ command.DeleteBucket (codes "abc") ∷ remove 2 ∷ one_put
+
+no_rows : rows (deeds 0 born_again) (codes "abc") ≡ []
+no_rows = refl
+
+none_removed : removed (deeds 0 born_again) (codes "abc") ≡ []
+none_removed = refl
+
+deleted : bucket (command.DeleteBucket (codes "abc") ∷ remove 2 ∷ one_put) (codes "abc") ≡ None
+deleted = refl
+
+not_deleted : refusal 0 one_put (command.DeleteBucket (codes "abc")) ≡ Some refusals.BucketNotEmpty
+not_deleted = refl
+
+the_birth : bucket born_again (codes "abc") ≡ Some (record { birth = 5; locked = false; enabled = true })
+the_birth = refl
+
+-- tags and hold are those of the greatest stamp
+abbrev tag : List ℕ → Tag
+tag key = record { key = key; value = [] }
+
+abbrev two_tags : History
+two_tags = command.SetTags (codes "abc") (codes "a") first_id (tag (codes "y") ∷ []) ∷ command.SetTags (codes "abc") (codes "a") first_id (tag (codes "x") ∷ []) ∷ one_put
+
+the_tags : latest (deeds 0 two_tags) (codes "abc") (codes "a") ≡ Some (record (row 1 2 (codes "hi") 2) { tags = tag (codes "y") ∷ []; tags_stamp = record { n = 3; region = 0; index = 4 } })
+the_tags = refl
+
+no_tags_of_a_marker : refusal 0 one_marker (command.SetTags (codes "abc") (codes "a") (record { region = 0; index = 3 }) []) ≡ Some refusals.MethodNotAllowed
+no_tags_of_a_marker = refl
+
+no_tags_of_none : refusal 0 one_marker (command.SetTags (codes "abc") (codes "a") (record { region = 1; index = 2 }) []) ≡ Some refusals.NoSuchVersion
+no_tags_of_none = refl
+
+-- versioning is switched off and on, and a bucket that is Suspended takes nothing new
+abbrev suspended : History
+suspended = command.SetVersioning (codes "abc") false ∷ one_put
+
+no_put : refusal 0 suspended (put (codes "a") (codes "new")) ≡ Some refusals.InvalidBucketState
+no_put = refl
+
+no_marker : refusal 0 suspended (command.Marker (codes "abc") (codes "a")) ≡ Some refusals.InvalidBucketState
+no_marker = refl
+
+a_removal : refusal 0 suspended (remove 2) ≡ None
+a_removal = refl
+
+put_again : refusal 0 (command.SetVersioning (codes "abc") true ∷ suspended) (put (codes "a") (codes "new")) ≡ None
+put_again = refl
+
+-- Object Lock: a version under hold isn't removed until its hold is off
+abbrev locked : History
+locked = command.Put (codes "lkk") (codes "k") [] true (codes "STANDARD") [] ∷ command.CreateBucket (codes "lkk") true ∷ []
+
+under_hold : refusal 0 locked (command.Remove (codes "lkk") (codes "k") first_id) ≡ Some refusals.AccessDenied
+under_hold = refl
+
+abbrev hold_off : History
+hold_off = command.SetHold (codes "lkk") (codes "k") first_id false ∷ command.Marker (codes "lkk") (codes "k") ∷ locked
+
+after_hold : refusal 0 hold_off (command.Remove (codes "lkk") (codes "k") first_id) ≡ None
+after_hold = refl
+
+stays_enabled : refusal 0 locked (command.SetVersioning (codes "lkk") false) ≡ Some refusals.InvalidBucketState
+stays_enabled = refl
+
+hold_needs_lock : refusal 0 one_put (command.SetHold (codes "abc") (codes "none") first_id true) ≡ Some refusals.LockNeeded
+hold_needs_lock = refl

@@ -1,80 +1,29 @@
--- The rows of a history.
-use Rattle.std.proofs.Common.{◌≡◌, ℕ, zero, suc, ◌+◌, ◌<◌, ◌≤◌, ◌⊎◌, inl, inr, max, Bool, true, false, cond, not, ◌&&◌, ◌||◌, ◌==◌, nat_le, List, [], ◌∷◌, ◌++◌, Some, None, find, Contains, length, bytes_eq, refl, sym, ap, ◌∙◌, arith, leb-true, le-leb, eqb-true, eq-eqb, lt-ltb, ne_eqb}
+-- The rows of a bucket, one command after another.
+use Rattle.std.proofs.Common.{◌≡◌, ℕ, Bool, true, false, cond, not, ◌&&◌, List, [], ◌∷◌, Option, Some, None, map, filter, length, bytes_eq, refl, sym, ap, ◌∙◌}
+use Rattle.std.specs.Prelude.{IfSome}
 use Rattle.std.specs.List.{list_all}
-use Rattle.std.proofs.lemmas.Bool.{and_parts, and_from, and_right, or_left, or_right, cases_lt}
-use Rattle.std.proofs.lemmas.Cmp.{nat_list_eq_equiv}
+use Rattle.std.proofs.lemmas.Bool.{and_parts, not-true}
+use Rattle.s3r_names.specs.Stamp.{is_before}
+use Rattle.s3r_names.specs.declared.stamp.Stamp.{Stamp}
 use Rattle.s3r_names.specs.declared.tags.Tag.{Tag}
 use Rattle.s3r_names.specs.declared.version.VersionId.{VersionId}
+use Rattle.s3r_record.specs.declared.command.Command.{Command}
 use Rattle.s3r_record.specs.declared.command.Command.TheVariants as command
-use Rattle.s3r_versions.specs.Order.{is_listed, is_later, comes_before}
-use Rattle.s3r_versions.specs.Lookup.{is_of_key, is_version, find_version}
-use Rattle.s3r_versions.specs.Contents.{with_row}
-use Rattle.s3r_versions.proofs.ListingOrder.{later_before}
+use Rattle.s3r_versions.specs.Order.{is_listed}
+use Rattle.s3r_versions.specs.Lookup.{is_version, find_version, has_each_once}
+use Rattle.s3r_versions.specs.Contents.{with_row, without_version, if_version, on_version, with_tags, with_hold, KeepsPlace}
 use Rattle.s3r_versions.proofs.Adding.{stays_listed, all-with_row}
-use Rattle.s3r_versions.proofs.Latest.{first-is-latest}
+use Rattle.s3r_versions.proofs.Changing.{adding_commutes_with_change as change_added}
+use Rattle.s3r_versions.proofs.Choosing.{adding_commutes_with_choice as choice_added}
 use Rattle.s3r_history.specs.Words.{Name, History}
-use Rattle.s3r_history.specs.Past.{Entry, Past, clock}
-use Rattle.s3r_history.specs.Deeds.{deeds, next_stamp, version}
-use Rattle.s3r_history.specs.Rows.{versions, in_order, rows, latest}
+use Rattle.s3r_history.specs.Buckets.{creates}
+use Rattle.s3r_history.specs.Past.{Entry, Added, Deed, Past, clock}
+use Rattle.s3r_history.specs.Deeds.{deeds, deed, next_stamp, version, marker}
+use Rattle.s3r_history.specs.Rows.{removes, versions, tag_write, hold_write, set_to, at_present, in_order, rows}
+use Rattle.s3r_history.proofs.Versions.{all-filter, kept_by, front, versions-step, versions-birth, is_old, all_old, once-versions, unknown}
+use Rattle.s3r_history.proofs.Present.{newest_of, written, written-place, present-place, present-front}
 
--- a row of region r that one of the first k commands wrote, under a number of at most n
-abbrev is_old : ℕ → ℕ → ℕ → Entry → Bool
-is_old r k n row = (row.id.region == r) && (nat_le row.id.index k && nat_le row.n n)
-
-old-more : (r k n m : ℕ) (row : Entry) → n ≤ m → is_old r k n row ≡ true → is_old r (k + 1) m row ≡ true
-old-more r k n m row le old =
-    let parts = and_parts (row.id.region == r) _ old in
-    let rest = and_parts (nat_le row.id.index k) (nat_le row.n n) parts.1 in
-    let index = leb-true row.id.index k rest.0 in
-    let number = leb-true row.n n rest.1 in
-    and_from _ _ parts.0 (and_from _ _ (le-leb row.id.index (k + 1) (omega arith)) (le-leb row.n m (omega arith)))
-
-all-more : (r k n m : ℕ) (vs : List Entry) → n ≤ m → list_all (is_old r k n) vs ≡ true → list_all (is_old r (k + 1) m) vs ≡ true
-all-more r k n m [] le old = refl
-all-more r k n m (v ∷ vs) le old =
-    let parts = and_parts (is_old r k n v) (list_all (is_old r k n) vs) old in
-    and_from _ _ (old-more r k n m v le parts.0) (all-more r k n m vs le parts.1)
-
-pub length-deeds : (r : ℕ) (h : History) → length (deeds r h) ≡ length h
-length-deeds r [] = refl
-length-deeds r (c ∷ h) = ap suc (length-deeds r h)
-
--- what a Put writes
-abbrev written : ℕ → Past → Name → List Tag → Bool → List ℕ → List ℕ → Entry
-written r past key tags hold class body = version (next_stamp r past) key tags hold class body
-
-written-old : (r : ℕ) (past : Past) (key : Name) (tags : List Tag) (hold : Bool) (class body : List ℕ) (m : ℕ) → (next_stamp r past).n ≤ m
-    → is_old r (length past + 1) m (written r past key tags hold class body) ≡ true
-written-old r past key tags hold class body m le =
-    and_from (r == r) _ (eq-eqb r r refl) (and_from (nat_le (length past + 1) (length past + 1)) _ (le-leb (length past + 1) (length past + 1) (omega arith)) (le-leb _ m le))
-
--- each version is of the region, and of a command that was there
-pub all_old : (r : ℕ) (h : History) (b : Name) → list_all (is_old r (length (deeds r h)) (clock (deeds r h))) (versions (deeds r h) b) ≡ true
-all_old r [] b = refl
-all_old r (command.CreateBucket name locked ∷ h) b = go (bytes_eq name b) (all_old r h b)
-  where
-    go : (t : Bool) → list_all (is_old r (length (deeds r h)) (clock (deeds r h))) (versions (deeds r h) b) ≡ true
-        → list_all (is_old r (suc (length (deeds r h))) (max 0 (clock (deeds r h)))) (cond t [] (versions (deeds r h) b)) ≡ true
-    go true ih = refl
-    go false ih =
-        let one : length (deeds r h) + 1 ≡ suc (length (deeds r h)) = omega arith in
-        ap (λ k. list_all (is_old r k (max 0 (clock (deeds r h)))) (versions (deeds r h) b)) (sym one)
-        ∙ all-more r (length (deeds r h)) (clock (deeds r h)) (max 0 (clock (deeds r h))) (versions (deeds r h) b) (omega arith) ih
-all_old r (command.Put bucket key tags hold class body ∷ h) b = go (bytes_eq bucket b) (all_old r h b)
-  where
-    go : (t : Bool) → list_all (is_old r (length (deeds r h)) (clock (deeds r h))) (versions (deeds r h) b) ≡ true
-        → list_all (is_old r (suc (length (deeds r h))) (max (next_stamp r (deeds r h)).n (clock (deeds r h)))) (cond t (written r (deeds r h) key tags hold class body ∷ []) [] ++ versions (deeds r h) b) ≡ true
-    go true ih =
-        let past = deeds r h in
-        let one : length (deeds r h) + 1 ≡ suc (length (deeds r h)) = omega arith in
-        let m = max (next_stamp r (deeds r h)).n (clock (deeds r h)) in
-        ap (λ k. list_all (is_old r k (max (next_stamp r (deeds r h)).n (clock (deeds r h)))) (written r (deeds r h) key tags hold class body ∷ versions (deeds r h) b)) (sym one)
-        ∙ and_from _ _ (written-old r (deeds r h) key tags hold class body (max (next_stamp r (deeds r h)).n (clock (deeds r h))) (omega arith))
-        (all-more r (length (deeds r h)) (clock (deeds r h)) (max (next_stamp r (deeds r h)).n (clock (deeds r h))) (versions (deeds r h) b) (omega arith) ih)
-    go false ih =
-        let one : length (deeds r h) + 1 ≡ suc (length (deeds r h)) = omega arith in
-        ap (λ k. list_all (is_old r k (max (next_stamp r (deeds r h)).n (clock (deeds r h)))) (versions (deeds r h) b)) (sym one)
-        ∙ all-more r (length (deeds r h)) (clock (deeds r h)) (max (next_stamp r (deeds r h)).n (clock (deeds r h))) (versions (deeds r h) b) (omega arith) ih
+-- ---- the listing order
 
 all-in_order : (p : Entry → Bool) (vs : List Entry) → list_all p vs ≡ true → list_all p (in_order vs) ≡ true
 all-in_order p [] all = refl
@@ -82,131 +31,243 @@ all-in_order p (v ∷ vs) all =
     let parts = and_parts (p v) (list_all p vs) all in
     all-with_row p v (in_order vs) parts.0 (all-in_order p vs parts.1)
 
--- a newer id isn't found
-none_new : (r k n : ℕ) (key : Name) (id : VersionId) (xs : List Entry) → k < id.index → list_all (is_old r k n) xs ≡ true → find_version key id xs ≡ None
-none_new r k n key id [] lt all = refl
-none_new r k n key id (x ∷ xs) lt all =
-    let parts = and_parts (is_old r k n x) (list_all (is_old r k n) xs) all in
-    let old = and_parts (nat_le x.id.index k) (nat_le x.n n) (and_parts (x.id.region == r) _ parts.0).1 in
-    let le = leb-true x.id.index k old.0 in
-    let other : is_version key id x ≡ false = and_right (is_of_key key x) _ (and_right (x.id.region == id.region) _ (ne_eqb x.id.index id.index (λ e. absurd (omega arith)))) in
-    ap (λ t. cond t (Some x) (find_version key id xs)) other ∙ none_new r k n key id xs lt parts.1
+pub none-found : (key : Name) (id : VersionId) (vs : List Entry) → list_all (λ (v : Entry). not (is_version key id v)) vs ≡ true → find_version key id vs ≡ None
+none-found key id [] none = refl
+none-found key id (v ∷ vs) none =
+    let parts = and_parts (not (is_version key id v)) (list_all (λ (w : Entry). not (is_version key id w)) vs) none in
+    ap (λ t. cond t (Some v) (find_version key id vs)) (not-true _ parts.0) ∙ none-found key id vs parts.1
+
+-- versions of which each stands once are listed in their order
+listed : (vs : List Entry) → has_each_once vs ≡ true → is_listed (in_order vs) ≡ true
+listed [] once = refl
+listed (v ∷ vs) once =
+    let parts = and_parts (list_all (λ (w : Entry). not (is_version v.key v.id w)) vs) (has_each_once vs) once in
+    stays_listed v (in_order vs) (listed vs parts.1) (none-found v.key v.id (in_order vs) (all-in_order (λ (w : Entry). not (is_version v.key v.id w)) vs parts.0))
+
+changed : (f : Entry → Entry) (vs : List Entry) → KeepsPlace f → map f (in_order vs) ≡ in_order (map f vs)
+changed f [] keeps = refl
+changed f (v ∷ vs) keeps = change_added f v (in_order vs) keeps ∙ ap (with_row (f v)) (changed f vs keeps)
+
+chosen : (p : Entry → Bool) (vs : List Entry) → has_each_once vs ≡ true → filter p (in_order vs) ≡ in_order (filter p vs)
+chosen p [] once = refl
+chosen p (v ∷ vs) once =
+    choice_added p v (in_order vs) (listed vs parts.1)
+    ∙ ap (λ xs. cond (p v) (with_row v xs) xs) (chosen p vs parts.1)
+    ∙ go (p v)
+  where
+    parts : (list_all (λ (w : Entry). not (is_version v.key v.id w)) vs ≡ true) × (has_each_once vs ≡ true)
+    parts = and_parts (list_all (λ (w : Entry). not (is_version v.key v.id w)) vs) (has_each_once vs) once
+
+    go : (t : Bool) → cond t (with_row v (in_order (filter p vs))) (in_order (filter p vs)) ≡ in_order (cond t (v ∷ filter p vs) (filter p vs))
+    go true = refl
+    go false = refl
+
+-- what keeps keys and ids keeps each once
+once-map : (f : Entry → Entry) → KeepsPlace f → (vs : List Entry) → has_each_once (map f vs) ≡ has_each_once vs
+once-map f keeps [] = refl
+once-map f keeps (v ∷ vs) =
+    ap (λ t. t && has_each_once (map f vs)) (one v vs) ∙ ap (λ t. list_all (λ (w : Entry). not (is_version v.key v.id w)) vs && t) (once-map f keeps vs)
+  where
+    same : (u w : Entry) → not (is_version (f u).key (f u).id (f w)) ≡ not (is_version u.key u.id w)
+    same u w = rw (keeps.key u, keeps.id u, keeps.key w, keeps.id w) refl
+
+    one : (u : Entry) (ws : List Entry) → list_all (λ (w : Entry). not (is_version (f u).key (f u).id w)) (map f ws) ≡ list_all (λ (w : Entry). not (is_version u.key u.id w)) ws
+    one u [] = refl
+    one u (w ∷ ws) = ap (λ t. t && list_all (λ (x : Entry). not (is_version (f u).key (f u).id x)) (map f ws)) (same u w) ∙ ap (λ t. not (is_version u.key u.id w) && t) (one u ws)
+
+abbrev present : Past → Name → List Entry
+present past b = map (at_present past b) (versions past b)
+
+once-present : (r : ℕ) (h : History) (b : Name) → has_each_once (present (deeds r h) b) ≡ true
+once-present r h b = once-map (at_present (deeds r h) b) (present-place (deeds r h) b) (versions (deeds r h) b) ∙ once-versions r h b
 
 pub rows_listed : (r : ℕ) (h : History) (b : Name) → is_listed (rows (deeds r h) b) ≡ true
-rows_listed r [] b = refl
-rows_listed r (command.CreateBucket name locked ∷ h) b = go (bytes_eq name b) (rows_listed r h b)
-  where
-    go : (t : Bool) → is_listed (rows (deeds r h) b) ≡ true → is_listed (in_order (cond t [] (versions (deeds r h) b))) ≡ true
-    go true ih = refl
-    go false ih = ih
-rows_listed r (command.Put bucket key tags hold class body ∷ h) b = go (bytes_eq bucket b) (rows_listed r h b)
-  where
-    go : (t : Bool) → is_listed (rows (deeds r h) b) ≡ true → is_listed (in_order (cond t (written r (deeds r h) key tags hold class body ∷ []) [] ++ versions (deeds r h) b)) ≡ true
-    go true ih =
-        stays_listed (written r (deeds r h) key tags hold class body) (rows (deeds r h) b) ih
-        (none_new r (length (deeds r h)) (clock (deeds r h)) key (written r (deeds r h) key tags hold class body).id (rows (deeds r h) b) (omega arith)
-        (all-in_order (is_old r (length (deeds r h)) (clock (deeds r h))) (versions (deeds r h) b) (all_old r h b)))
-    go false ih = ih
+rows_listed r h b = listed (present (deeds r h) b) (once-present r h b)
 
-all_at : {X : Type 0} (p : X → Bool) (xs : List X) (y : X) → list_all p xs ≡ true → Contains xs y → p y ≡ true
-all_at p [] y all (k, lt, e) = absurd (omega arith)
-all_at p (x ∷ xs) y all (zero, lt, e) = ap p (sym e) ∙ (and_parts (p x) (list_all p xs) all).0
-all_at p (x ∷ xs) y all (suc k, lt, e) = all_at p xs y (and_parts (p x) (list_all p xs) all).1 (k, omega arith, e)
+pub all-map : (p : Entry → Bool) (f : Entry → Entry) → ((v : Entry) → p (f v) ≡ p v) → (vs : List Entry) → list_all p (map f vs) ≡ list_all p vs
+all-map p f same [] = refl
+all-map p f same (v ∷ vs) = ap (λ t. t && list_all p (map f vs)) (same v) ∙ ap (λ t. p v && t) (all-map p f same vs)
 
-pub ids_own : (r : ℕ) (h : History) (b : Name) (row : Entry) → Contains (rows (deeds r h) b) row → (row.id.region ≡ r) × (row.id.index ≤ length h)
-ids_own r h b row there =
-    let old = all_at (is_old r (length (deeds r h)) (clock (deeds r h))) (rows (deeds r h) b) row
-    (all-in_order (is_old r (length (deeds r h)) (clock (deeds r h))) (versions (deeds r h) b) (all_old r h b)) there in
-    let parts = and_parts (row.id.region == r) (nat_le row.id.index (length (deeds r h)) && nat_le row.n (clock (deeds r h))) old in
-    let le = leb-true row.id.index (length (deeds r h)) (and_parts (nat_le row.id.index (length (deeds r h))) (nat_le row.n (clock (deeds r h))) parts.1).0 in
-    (eqb-true row.id.region r parts.0, omega (arith, length-deeds r h))
-
--- the clock never passes 64 bits
-pub clock_fits : (r : ℕ) (h : History) → clock (deeds r h) ≤ 18446744073709551615
-clock_fits r [] = omega arith
-clock_fits r (command.CreateBucket name locked ∷ h) = omega (arith, clock_fits r h)
-clock_fits r (command.Put bucket key tags hold class body ∷ h) = omega (arith, clock_fits r h)
-
-other : (u : Bool) → (not u || false) ≡ true → u ≡ false
-other true h = sym h
-other false h = refl
-
--- a row that comes before all others of its key is the first of its key
-first_found : (key : Name) (row : Entry) (xs : List Entry) → is_of_key key row ≡ true → list_all (λ x. not (is_of_key key x) || comes_before row x) xs ≡ true → find (is_of_key key) (with_row row xs) ≡ Some row
-first_found key row [] same all = ap (λ t. cond t (Some row) None) same
-first_found key row (x ∷ xs) same all = go (comes_before row x) parts.0 (first_found key row xs same parts.1)
-  where
-    parts : ((not (is_of_key key x) || comes_before row x) ≡ true) × (list_all (λ y. not (is_of_key key y) || comes_before row y) xs ≡ true)
-    parts = and_parts (not (is_of_key key x) || comes_before row x) (list_all (λ y. not (is_of_key key y) || comes_before row y) xs) all
-
-    go : (t : Bool) → (not (is_of_key key x) || t) ≡ true → find (is_of_key key) (with_row row xs) ≡ Some row
-        → find (is_of_key key) (cond t (row ∷ x ∷ xs) (x ∷ with_row row xs)) ≡ Some row
-    go true h ih = ap (λ t. cond t (Some row) (find (is_of_key key) (x ∷ xs))) same
-    go false h ih = ap (λ t. cond t (Some x) (find (is_of_key key) (with_row row xs))) (other (is_of_key key x) h) ∙ ih
-
--- a row under a newer stamp is later
-newer_later : (r k n : ℕ) (row x : Entry) → row.id.region ≡ r → k < row.id.index → n ≤ row.n → is_old r k n x ≡ true → is_later row x ≡ true
-newer_later r k n row x region index number old = go (cases_lt x.n row.n)
-  where
-    parts : ((x.id.region == r) ≡ true) × ((nat_le x.id.index k && nat_le x.n n) ≡ true)
-    parts = and_parts (x.id.region == r) (nat_le x.id.index k && nat_le x.n n) old
-
-    rest : (nat_le x.id.index k ≡ true) × (nat_le x.n n ≡ true)
-    rest = and_parts (nat_le x.id.index k) (nat_le x.n n) parts.1
-
-    go : (x.n < row.n) ⊎ (row.n ≤ x.n) → is_later row x ≡ true
-    go (inl lt) = or_left _ _ (lt-ltb x.n row.n lt)
-    go (inr ge) =
-        let at : x.n ≤ n = leb-true x.n n rest.1 in
-        let from : x.id.index ≤ k = leb-true x.id.index k rest.0 in
-        or_right _ _ (and_from (x.n == row.n) _ (eq-eqb x.n row.n (omega arith))
-        (or_right _ _ (and_from (x.id.region == row.id.region) _ (eq-eqb x.id.region row.id.region (eqb-true x.id.region r parts.0 ∙ sym region)) (lt-ltb x.id.index row.id.index (omega arith)))))
-
-all_earlier : (r k n : ℕ) (key : Name) (row : Entry) (xs : List Entry) → is_of_key key row ≡ true → row.id.region ≡ r → k < row.id.index → n ≤ row.n → list_all (is_old r k n) xs ≡ true
-    → list_all (λ x. not (is_of_key key x) || comes_before row x) xs ≡ true
-all_earlier r k n key row [] same region index number all = refl
-all_earlier r k n key row (x ∷ xs) same region index number all =
-    and_from _ _ (go (is_of_key key x) refl) (all_earlier r k n key row xs same region index number parts.1)
-  where
-    parts : (is_old r k n x ≡ true) × (list_all (is_old r k n) xs ≡ true)
-    parts = and_parts (is_old r k n x) (list_all (is_old r k n) xs) all
-
-    go : (t : Bool) → is_of_key key x ≡ t → (not t || comes_before row x) ≡ true
-    go true h = later_before key row x same h (newer_later r k n row x region index number parts.0)
-    go false h = refl
-
-pub put_latest : (r : ℕ) (h : History) (b key : Name) (tags : List Tag) (hold : Bool) (class body : List ℕ)
-    → latest (deeds r (command.Put b key tags hold class body ∷ h)) b key ≡ Some (version (next_stamp r (deeds r h)) key tags hold class body)
-put_latest r h b key tags hold class body =
-    sym (first-is-latest key (rows (deeds r (command.Put b key tags hold class body ∷ h)) b) (rows_listed r (command.Put b key tags hold class body ∷ h) b))
-    ∙ ap (λ t. find (is_of_key key) (in_order (cond t (written r (deeds r h) key tags hold class body ∷ []) [] ++ versions (deeds r h) b))) (nat_list_eq_equiv.refl b)
-    ∙ first_found key (written r (deeds r h) key tags hold class body) (rows (deeds r h) b) (nat_list_eq_equiv.refl key)
-    (all_earlier r (length (deeds r h)) (clock (deeds r h)) key (written r (deeds r h) key tags hold class body) (rows (deeds r h) b)
-    (nat_list_eq_equiv.refl key) refl (omega arith) (omega (arith, clock_fits r h))
-    (all-in_order (is_old r (length (deeds r h)) (clock (deeds r h))) (versions (deeds r h) b) (all_old r h b)))
+-- each row is of the region, and of a command that was there
+pub rows_old : (r : ℕ) (h : History) (b : Name) → list_all (is_old r (length (deeds r h)) (clock (deeds r h))) (rows (deeds r h) b) ≡ true
+rows_old r h b =
+    all-in_order (is_old r (length (deeds r h)) (clock (deeds r h))) (present (deeds r h) b)
+    (all-map (is_old r (length (deeds r h)) (clock (deeds r h))) (at_present (deeds r h) b) (λ v. refl) (versions (deeds r h) b) ∙ all_old r h b)
 
 -- ---- one command more
 
--- the id that a Put gives isn't there
-pub put_new : (r : ℕ) (h : History) (b key : Name) (id : VersionId) → id.index ≡ (next_stamp r (deeds r h)).index → find_version key id (rows (deeds r h) b) ≡ None
-put_new r h b key id same =
-    none_new r (length (deeds r h)) (clock (deeds r h)) key id (rows (deeds r h) b) (omega arith)
-    (all-in_order (is_old r (length (deeds r h)) (clock (deeds r h))) (versions (deeds r h) b) (all_old r h b))
+abbrev pub added : Name → Option Added → List Entry → List Entry
+added b None rs = rs
+added b (Some a) rs = cond (bytes_eq a.bucket b) (with_row a.row rs) rs
+
+order-front : (b : Name) (o : Option Added) (vs : List Entry) → in_order (front b o vs) ≡ added b o (in_order vs)
+order-front b None vs = refl
+order-front b (Some a) vs = go (bytes_eq a.bucket b)
+  where
+    go : (t : Bool) → in_order (cond t (a.row ∷ vs) vs) ≡ cond t (with_row a.row (in_order vs)) (in_order vs)
+    go true = refl
+    go false = refl
+
+kept-map : (b : Name) (c : Command) (f : Entry → Entry) → KeepsPlace f → (vs : List Entry) → map f (kept_by b c vs) ≡ kept_by b c (map f vs)
+kept-map b c f keeps [] = refl
+kept-map b c f keeps (v ∷ vs) = go (not (removes b v.key v.id c)) (same v) (kept-map b c f keeps vs)
+  where
+    same : (u : Entry) → not (removes b (f u).key (f u).id c) ≡ not (removes b u.key u.id c)
+    same u = rw (keeps.key u, keeps.id u) refl
+
+    go : (t : Bool) → not (removes b (f v).key (f v).id c) ≡ t → map f (kept_by b c vs) ≡ kept_by b c (map f vs)
+        → map f (cond t (v ∷ kept_by b c vs) (kept_by b c vs)) ≡ cond (not (removes b (f v).key (f v).id c)) (f v ∷ kept_by b c (map f vs)) (kept_by b c (map f vs))
+    go true e ih = ap (λ xs. f v ∷ xs) ih ∙ ap (λ t. cond t (f v ∷ kept_by b c (map f vs)) (kept_by b c (map f vs))) (sym e)
+    go false e ih = ih ∙ ap (λ t. cond t (f v ∷ kept_by b c (map f vs)) (kept_by b c (map f vs))) (sym e)
+
+some_of : {A : Type 0} {P Q : A → Type 0} (o : Option A) → ((a : A) → P a → Q a) → IfSome o P → IfSome o Q
+some_of None f p = tt
+some_of (Some a) f p = f a p
+
+-- A command that isn't the bucket's creation writes, removes and adds.
+pub rows-step : (r : ℕ) (h : History) (b : Name) (c : Command) → creates b c ≡ false
+    → rows (deeds r (c ∷ h)) b ≡ added b (deed r (deeds r h) c).adds (map (written b (deed r (deeds r h) c)) (kept_by b c (rows (deeds r h) b)))
+rows-step r h b c goes_on =
+    ap (λ vs. in_order (map (at_present (d ∷ past) b) vs)) (versions-step b d past goes_on)
+    ∙ ap in_order (present-front d past b d.adds (kept_by b c (versions past b)) refl
+    (some_of d.adds (λ (a : Added) new. all-filter (λ (v : Entry). not (is_version a.row.key a.row.id v)) (λ (v : Entry). not (removes b v.key v.id c)) (versions past b) new) (unknown r h b c)))
+    ∙ order-front b d.adds (map (written b d) (map (at_present past b) (kept_by b c (versions past b))))
+    ∙ ap (added b d.adds)
+    (ap (λ vs. in_order (map (written b d) vs)) (kept-map b c (at_present past b) (present-place past b) (versions past b))
+    ∙ sym (changed (written b d) (kept_by b c (present past b)) (written-place b d))
+    ∙ ap (map (written b d)) (sym (chosen (λ (v : Entry). not (removes b v.key v.id c)) (present past b) (once-present r h b))))
+  where
+    past : Past
+    past = deeds r h
+
+    d : Deed
+    d = deed r (deeds r h) c
+
+-- the bucket's creation leaves none
+pub rows-birth : (r : ℕ) (h : History) (b : Name) (c : Command) → creates b c ≡ true → rows (deeds r (c ∷ h)) b ≡ []
+rows-birth r h b c begins = ap (λ vs. in_order (map (at_present (deeds r (c ∷ h)) b) vs)) (versions-birth b (deed r (deeds r h) c) (deeds r h) begins)
+
+-- ---- command by command
+
+kept-all : (b : Name) (c : Command) → ((key : Name) (id : VersionId) → removes b key id c ≡ false) → (rs : List Entry) → kept_by b c rs ≡ rs
+kept-all b c none [] = refl
+kept-all b c none (row ∷ rs) = ap (λ t. cond (not t) (row ∷ kept_by b c rs) (kept_by b c rs)) (none row.key row.id) ∙ ap (λ xs. row ∷ xs) (kept-all b c none rs)
+
+unwritten : (b : Name) (d : Deed) → ((key : Name) (id : VersionId) → tag_write b key id d.stamp d.command ≡ None) → ((key : Name) (id : VersionId) → hold_write b key id d.stamp d.command ≡ None)
+    → (rs : List Entry) → map (written b d) rs ≡ rs
+unwritten b d tags hold [] = refl
+unwritten b d tags hold (row ∷ rs) =
+    ap (λ o. set_to row (newest_of o (row.tags_stamp, row.tags)) (newest_of (hold_write b row.key row.id d.stamp d.command) (row.hold_stamp, row.hold)) ∷ map (written b d) rs) (tags row.key row.id)
+    ∙ ap (λ o. set_to row (row.tags_stamp, row.tags) (newest_of o (row.hold_stamp, row.hold)) ∷ map (written b d) rs) (hold row.key row.id)
+    ∙ ap (λ xs. row ∷ xs) (unwritten b d tags hold rs)
 
 pub rows-put : (r : ℕ) (h : History) (b bucket key : Name) (tags : List Tag) (hold : Bool) (class body : List ℕ)
     → rows (deeds r (command.Put bucket key tags hold class body ∷ h)) b
     ≡ cond (bytes_eq bucket b) (with_row (version (next_stamp r (deeds r h)) key tags hold class body) (rows (deeds r h) b)) (rows (deeds r h) b)
-rows-put r h b bucket key tags hold class body = go (bytes_eq bucket b)
-  where
-    go : (t : Bool) → in_order (cond t (written r (deeds r h) key tags hold class body ∷ []) [] ++ versions (deeds r h) b)
-        ≡ cond t (with_row (written r (deeds r h) key tags hold class body) (rows (deeds r h) b)) (rows (deeds r h) b)
-    go true = refl
-    go false = refl
+rows-put r h b bucket key tags hold class body =
+    let c = command.Put bucket key tags hold class body in
+    rows-step r h b c refl
+    ∙ ap (λ rs. cond (bytes_eq bucket b) (with_row (version (next_stamp r (deeds r h)) key tags hold class body) rs) rs)
+    (ap (map (written b (deed r (deeds r h) c))) (kept-all b c (λ k i. refl) (rows (deeds r h) b)) ∙ unwritten b (deed r (deeds r h) c) (λ k i. refl) (λ k i. refl) (rows (deeds r h) b))
 
-pub rows-create : (r : ℕ) (h : History) (b name : Name) (locked : Bool)
-    → rows (deeds r (command.CreateBucket name locked ∷ h)) b ≡ cond (bytes_eq name b) [] (rows (deeds r h) b)
-rows-create r h b name locked = go (bytes_eq name b)
+pub rows-marker : (r : ℕ) (h : History) (b bucket key : Name)
+    → rows (deeds r (command.Marker bucket key ∷ h)) b ≡ cond (bytes_eq bucket b) (with_row (marker (next_stamp r (deeds r h)) key) (rows (deeds r h) b)) (rows (deeds r h) b)
+rows-marker r h b bucket key =
+    let c = command.Marker bucket key in
+    rows-step r h b c refl
+    ∙ ap (λ rs. cond (bytes_eq bucket b) (with_row (marker (next_stamp r (deeds r h)) key) rs) rs)
+    (ap (map (written b (deed r (deeds r h) c))) (kept-all b c (λ k i. refl) (rows (deeds r h) b)) ∙ unwritten b (deed r (deeds r h) c) (λ k i. refl) (λ k i. refl) (rows (deeds r h) b))
+
+pub rows-create : (r : ℕ) (h : History) (b name : Name) (locked : Bool) → rows (deeds r (command.CreateBucket name locked ∷ h)) b ≡ cond (bytes_eq name b) [] (rows (deeds r h) b)
+rows-create r h b name locked = go (bytes_eq name b) refl
   where
-    go : (t : Bool) → in_order (cond t [] (versions (deeds r h) b)) ≡ cond t [] (rows (deeds r h) b)
+    go : (t : Bool) → bytes_eq name b ≡ t → rows (deeds r (command.CreateBucket name locked ∷ h)) b ≡ cond t [] (rows (deeds r h) b)
+    go true e = rows-birth r h b (command.CreateBucket name locked) e
+    go false e =
+        rows-step r h b (command.CreateBucket name locked) e
+        ∙ ap (map (written b (deed r (deeds r h) (command.CreateBucket name locked)))) (kept-all b (command.CreateBucket name locked) (λ k i. refl) (rows (deeds r h) b))
+        ∙ unwritten b (deed r (deeds r h) (command.CreateBucket name locked)) (λ k i. refl) (λ k i. refl) (rows (deeds r h) b)
+
+pub rows-delete : (r : ℕ) (h : History) (b name : Name) → rows (deeds r (command.DeleteBucket name ∷ h)) b ≡ rows (deeds r h) b
+rows-delete r h b name =
+    let c = command.DeleteBucket name in
+    rows-step r h b c refl
+    ∙ ap (map (written b (deed r (deeds r h) c))) (kept-all b c (λ k i. refl) (rows (deeds r h) b))
+    ∙ unwritten b (deed r (deeds r h) c) (λ k i. refl) (λ k i. refl) (rows (deeds r h) b)
+
+pub rows-switch : (r : ℕ) (h : History) (b name : Name) (enabled : Bool) → rows (deeds r (command.SetVersioning name enabled ∷ h)) b ≡ rows (deeds r h) b
+rows-switch r h b name enabled =
+    let c = command.SetVersioning name enabled in
+    rows-step r h b c refl
+    ∙ ap (map (written b (deed r (deeds r h) c))) (kept-all b c (λ k i. refl) (rows (deeds r h) b))
+    ∙ unwritten b (deed r (deeds r h) c) (λ k i. refl) (λ k i. refl) (rows (deeds r h) b)
+
+removes_those : (t : Bool) (key : Name) (id : VersionId) (rs : List Entry) → filter (λ (v : Entry). not (t && is_version key id v)) rs ≡ cond t (without_version key id rs) rs
+removes_those true key id rs = refl
+removes_those false key id [] = refl
+removes_those false key id (row ∷ rs) = ap (λ xs. row ∷ xs) (removes_those false key id rs)
+
+pub rows-remove : (r : ℕ) (h : History) (b bucket key : Name) (id : VersionId)
+    → rows (deeds r (command.Remove bucket key id ∷ h)) b ≡ cond (bytes_eq bucket b) (without_version key id (rows (deeds r h) b)) (rows (deeds r h) b)
+rows-remove r h b bucket key id =
+    let c = command.Remove bucket key id in
+    rows-step r h b c refl
+    ∙ unwritten b (deed r (deeds r h) c) (λ k i. refl) (λ k i. refl) (kept_by b c (rows (deeds r h) b))
+    ∙ removes_those (bytes_eq bucket b) key id (rows (deeds r h) b)
+
+-- a write with the newer stamp
+tags_set : (stamp : Stamp) (tags : List Tag) (it : Bool) (row : Entry)
+    → set_to row (newest_of (cond it (Some (stamp, tags)) None) (row.tags_stamp, row.tags)) (row.hold_stamp, row.hold) ≡ cond it (with_tags stamp tags row) row
+tags_set stamp tags true row = go (is_before row.tags_stamp stamp)
+  where
+    go : (t : Bool) → set_to row (cond t (stamp, tags) (row.tags_stamp, row.tags)) (row.hold_stamp, row.hold) ≡ cond t (record row { tags = tags; tags_stamp = stamp }) row
     go true = refl
     go false = refl
+tags_set stamp tags false row = refl
+
+hold_set : (stamp : Stamp) (hold : Bool) (it : Bool) (row : Entry)
+    → set_to row (row.tags_stamp, row.tags) (newest_of (cond it (Some (stamp, hold)) None) (row.hold_stamp, row.hold)) ≡ cond it (with_hold stamp hold row) row
+hold_set stamp hold true row = go (is_before row.hold_stamp stamp)
+  where
+    go : (t : Bool) → set_to row (row.tags_stamp, row.tags) (cond t (stamp, hold) (row.hold_stamp, row.hold)) ≡ cond t (record row { hold = hold; hold_stamp = stamp }) row
+    go true = refl
+    go false = refl
+hold_set stamp hold false row = refl
+
+abbrev sets_tags : Stamp → List Tag → Name → VersionId → Bool → Entry → Entry
+sets_tags stamp tags key id t row = set_to row (newest_of (cond (t && is_version key id row) (Some (stamp, tags)) None) (row.tags_stamp, row.tags)) (row.hold_stamp, row.hold)
+
+sets_those_tags : (stamp : Stamp) (tags : List Tag) (key : Name) (id : VersionId) (t : Bool) (rs : List Entry) → map (sets_tags stamp tags key id t) rs ≡ cond t (on_version key id (with_tags stamp tags) rs) rs
+sets_those_tags stamp tags key id true [] = refl
+sets_those_tags stamp tags key id true (row ∷ rs) =
+    ap (λ x. x ∷ map (sets_tags stamp tags key id true) rs) (tags_set stamp tags (is_version key id row) row)
+    ∙ ap (λ xs. if_version key id (with_tags stamp tags) row ∷ xs) (sets_those_tags stamp tags key id true rs)
+sets_those_tags stamp tags key id false [] = refl
+sets_those_tags stamp tags key id false (row ∷ rs) = ap (λ xs. row ∷ xs) (sets_those_tags stamp tags key id false rs)
+
+pub rows-tags : (r : ℕ) (h : History) (b bucket key : Name) (id : VersionId) (tags : List Tag)
+    → rows (deeds r (command.SetTags bucket key id tags ∷ h)) b ≡ cond (bytes_eq bucket b) (on_version key id (with_tags (next_stamp r (deeds r h)) tags) (rows (deeds r h) b)) (rows (deeds r h) b)
+rows-tags r h b bucket key id tags =
+    let c = command.SetTags bucket key id tags in
+    rows-step r h b c refl
+    ∙ ap (map (written b (deed r (deeds r h) c))) (kept-all b c (λ k i. refl) (rows (deeds r h) b))
+    ∙ sets_those_tags (next_stamp r (deeds r h)) tags key id (bytes_eq bucket b) (rows (deeds r h) b)
+
+abbrev sets_hold : Stamp → Bool → Name → VersionId → Bool → Entry → Entry
+sets_hold stamp hold key id t row = set_to row (row.tags_stamp, row.tags) (newest_of (cond (t && is_version key id row) (Some (stamp, hold)) None) (row.hold_stamp, row.hold))
+
+sets_that_hold : (stamp : Stamp) (hold : Bool) (key : Name) (id : VersionId) (t : Bool) (rs : List Entry) → map (sets_hold stamp hold key id t) rs ≡ cond t (on_version key id (with_hold stamp hold) rs) rs
+sets_that_hold stamp hold key id true [] = refl
+sets_that_hold stamp hold key id true (row ∷ rs) =
+    ap (λ x. x ∷ map (sets_hold stamp hold key id true) rs) (hold_set stamp hold (is_version key id row) row)
+    ∙ ap (λ xs. if_version key id (with_hold stamp hold) row ∷ xs) (sets_that_hold stamp hold key id true rs)
+sets_that_hold stamp hold key id false [] = refl
+sets_that_hold stamp hold key id false (row ∷ rs) = ap (λ xs. row ∷ xs) (sets_that_hold stamp hold key id false rs)
+
+pub rows-hold : (r : ℕ) (h : History) (b bucket key : Name) (id : VersionId) (hold : Bool)
+    → rows (deeds r (command.SetHold bucket key id hold ∷ h)) b ≡ cond (bytes_eq bucket b) (on_version key id (with_hold (next_stamp r (deeds r h)) hold) (rows (deeds r h) b)) (rows (deeds r h) b)
+rows-hold r h b bucket key id hold =
+    let c = command.SetHold bucket key id hold in
+    rows-step r h b c refl
+    ∙ ap (map (written b (deed r (deeds r h) c))) (kept-all b c (λ k i. refl) (rows (deeds r h) b))
+    ∙ sets_that_hold (next_stamp r (deeds r h)) hold key id (bytes_eq bucket b) (rows (deeds r h) b)

@@ -1,3 +1,7 @@
+mod HistoryExamples
+pub mod Versions
+pub mod Present
 pub mod HistoryRows
+pub mod LatestRows
 pub mod HistoryNames
-pub mod HistoryExamples
+pub mod ToldSteps

@@ -1,12 +1,16 @@
 -- Which commands a history accepts.
-use Rattle.std.specs.Prelude.{◌≡◌, Bool, false, ◌&&◌, not, nat_le, List, [], ◌∷◌, Option, Some, None, if◌then◌else◌, length}
+use Rattle.std.specs.Prelude.{◌≡◌, ℕ, Bool, true, false, ◌&&◌, not, nat_le, List, [], ◌∷◌, Option, Some, None, if◌then◌else◌, is_some, length}
+use Rattle.s3r_names.specs.declared.version.VersionId.{VersionId}
 use Rattle.s3r_record.specs.declared.command.Command.{Command}
 use Rattle.s3r_record.specs.declared.command.Command.TheVariants as command
 use Rattle.s3r_record.specs.Spelling.{IsCommand}
+use Rattle.s3r_versions.specs.Lookup.{find_version}
 use Rattle.s3r_history.specs.declared.refusal.Refusal.{Refusal}
 use Rattle.s3r_history.specs.declared.refusal.Refusal.TheVariants as refusals
-use Rattle.s3r_history.specs.Words.{History}
-use Rattle.s3r_history.specs.Buckets.{Bucket, bucket, is_there, names}
+use Rattle.s3r_history.specs.Words.{Name, History}
+use Rattle.s3r_history.specs.Buckets.{names}
+use Rattle.s3r_history.specs.Past.{Entry}
+use Rattle.s3r_history.specs.Told.{Told, told}
 
 -- a condition under which a command is refused, and how
 abbrev pub Cause : Type 0
@@ -17,20 +21,67 @@ abbrev pub first_of_causes : List Cause → Option Refusal
 first_of_causes [] = None
 first_of_causes (c ∷ cs) = if c.0 then Some c.1 else first_of_causes cs
 
-abbrev pub bucket_holds : (Bucket → Bool) → Option Bucket → Bool
-bucket_holds p None = false
-bucket_holds p (Some at) = p at
+-- the causes of a bucket that is there, behind that of one that isn't
+abbrev pub in_bucket : (Told → List Cause) → Option Told → List Cause
+in_bucket more None = (true, refusals.NoSuchBucket) ∷ []
+in_bucket more (Some at) = more at
 
-abbrev pub causes : History → Command → List Cause
-causes h (command.CreateBucket name locked) = (is_there h name, refusals.BucketAlreadyExists) ∷ (nat_le 100 (length (names h)), refusals.TooManyBuckets) ∷ []
-causes h (command.Put b key tags hold class body) =
-    (not (is_there h b), refusals.NoSuchBucket) ∷ (hold && bucket_holds (λ at. not at.locked) (bucket h b), refusals.LockNeeded) ∷ []
+-- those of a version that is there, behind that of one that isn't
+abbrev pub in_version : (Entry → List Cause) → Option Entry → List Cause
+in_version more None = (true, refusals.NoSuchVersion) ∷ []
+in_version more (Some row) = more row
 
--- how the command is refused after h; None where it is accepted
-abbrev pub refusal : History → Command → Option Refusal
-refusal h c = first_of_causes (causes h c)
+abbrev pub has_rows : List Entry → Bool
+has_rows [] = false
+has_rows (row ∷ rows) = true
+
+abbrev pub of_creation : Option Told → ℕ → List Cause
+of_creation at count = (is_some at, refusals.BucketAlreadyExists) ∷ (nat_le 100 count, refusals.TooManyBuckets) ∷ []
+
+abbrev pub of_deletion : Told → List Cause
+of_deletion at = (has_rows at.rows, refusals.BucketNotEmpty) ∷ []
+
+-- versioning isn't switched off under Object Lock
+abbrev pub of_switch : Bool → Told → List Cause
+of_switch enabled at = (not enabled && at.locked, refusals.InvalidBucketState) ∷ []
+
+abbrev pub of_put : Bool → Told → List Cause
+of_put hold at = (not at.enabled, refusals.InvalidBucketState) ∷ (hold && not at.locked, refusals.LockNeeded) ∷ []
+
+abbrev pub of_marker : Told → List Cause
+of_marker at = (not at.enabled, refusals.InvalidBucketState) ∷ []
+
+abbrev pub under_hold : Entry → List Cause
+under_hold row = (row.hold, refusals.AccessDenied) ∷ []
+
+abbrev pub of_removal : Name → VersionId → Told → List Cause
+of_removal key id at = in_version under_hold (find_version key id at.rows)
+
+abbrev pub of_a_marker : Entry → List Cause
+of_a_marker row = (row.marker, refusals.MethodNotAllowed) ∷ []
+
+abbrev pub of_tags : Name → VersionId → Told → List Cause
+of_tags key id at = in_version of_a_marker (find_version key id at.rows)
+
+abbrev pub of_hold : Name → VersionId → Told → List Cause
+of_hold key id at = (not at.locked, refusals.LockNeeded) ∷ in_version of_a_marker (find_version key id at.rows)
+
+-- why a command may be refused, in order, by what is told of buckets and by how many there are
+abbrev pub causes : (Name → Option Told) → ℕ → Command → List Cause
+causes at count (command.CreateBucket name locked) = of_creation (at name) count
+causes at count (command.DeleteBucket name) = in_bucket of_deletion (at name)
+causes at count (command.SetVersioning name enabled) = in_bucket (of_switch enabled) (at name)
+causes at count (command.Put b key tags hold class body) = in_bucket (of_put hold) (at b)
+causes at count (command.Marker b key) = in_bucket of_marker (at b)
+causes at count (command.Remove b key id) = in_bucket (of_removal key id) (at b)
+causes at count (command.SetTags b key id tags) = in_bucket (of_tags key id) (at b)
+causes at count (command.SetHold b key id hold) = in_bucket (of_hold key id) (at b)
+
+-- how the command is refused after region r's history h; None where it is accepted
+abbrev pub refusal : ℕ → History → Command → Option Refusal
+refusal r h c = first_of_causes (causes (told r h) (length (names h)) c)
 
 -- each command meets its fields' rules and is accepted by the history before it
-abbrev pub IsLawful : History → Type 0
-IsLawful [] = Unit {0}
-IsLawful (c ∷ h) = IsCommand c × (refusal h c ≡ None) × IsLawful h
+abbrev pub IsLawful : ℕ → History → Type 0
+IsLawful r [] = Unit {0}
+IsLawful r (c ∷ h) = IsCommand c × (refusal r h c ≡ None) × IsLawful r h

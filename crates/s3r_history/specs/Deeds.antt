@@ -1,5 +1,5 @@
 -- What a region's commands did.
-use Rattle.std.specs.Prelude.{ℕ, ◌+◌, min, Bool, false, List, [], ◌∷◌, Option, Some, None, length}
+use Rattle.std.specs.Prelude.{ℕ, ◌+◌, min, Bool, true, false, codes, List, [], ◌∷◌, Option, Some, None, length}
 use Rattle.s3r_names.specs.declared.stamp.Stamp.{Stamp}
 use Rattle.s3r_names.specs.declared.tags.Tag.{Tag}
 use Rattle.s3r_record.specs.declared.command.Command.{Command}
@@ -28,9 +28,14 @@ version stamp key tags hold class body = record {
   origin = None;
 }
 
+-- a marker that was written under the stamp
+abbrev pub marker : Stamp → Name → Entry
+marker stamp key = record (version stamp key [] false (codes "STANDARD") []) { marker = true }
+
 -- the version that a command adds: these cases alone
 abbrev pub added_by : Stamp → Command → Option Added
 added_by stamp (command.Put b key tags hold class body) = Some (record { bucket = b; row = version stamp key tags hold class body })
+added_by stamp (command.Marker b key) = Some (record { bucket = b; row = marker stamp key })
 added_by stamp _ = None
 
 -- what a command does after these deeds

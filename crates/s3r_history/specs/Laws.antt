@@ -9,7 +9,7 @@ use Rattle.s3r_versions.specs.Order.{is_listed}
 use Rattle.s3r_history.specs.Words.{Name, History}
 use Rattle.s3r_history.specs.Buckets.{is_there, names}
 use Rattle.s3r_history.specs.Past.{Entry}
-use Rattle.s3r_history.specs.Deeds.{deeds, next_stamp, version}
+use Rattle.s3r_history.specs.Deeds.{deeds, next_stamp, version, marker}
 use Rattle.s3r_history.specs.Rows.{rows, row_at, latest}
 
 -- a bucket's rows stand in the listing order
@@ -28,6 +28,14 @@ IdsAreNew = (r : ℕ) (h : History) (b key : Name) (id : VersionId) → id.index
 abbrev pub PutIsLatest : Type 0
 PutIsLatest = (r : ℕ) (h : History) (b key : Name) (tags : List Tag) (hold : Bool) (class body : List ℕ)
     → latest (deeds r (command.Put b key tags hold class body ∷ h)) b key ≡ Some (version (next_stamp r (deeds r h)) key tags hold class body)
+
+-- so is a marker, which hides the versions before it
+abbrev pub MarkerIsLatest : Type 0
+MarkerIsLatest = (r : ℕ) (h : History) (b key : Name) → latest (deeds r (command.Marker b key ∷ h)) b key ≡ Some (marker (next_stamp r (deeds r h)) key)
+
+-- a removed version isn't there
+abbrev pub RemovedIsGone : Type 0
+RemovedIsGone = (r : ℕ) (h : History) (b key : Name) (id : VersionId) → row_at (deeds r (command.Remove b key id ∷ h)) b key id ≡ None
 
 -- a name is counted where its bucket is there
 abbrev pub NamesAreThose : Type 0

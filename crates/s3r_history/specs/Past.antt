@@ -28,6 +28,9 @@ Past = List Deed
 -- the greatest n that a command has
 abbrev pub n_of : Command → Stamp → ℕ
 n_of (command.Put bucket key tags hold class body) stamp = stamp.n
+n_of (command.Marker bucket key) stamp = stamp.n
+n_of (command.SetTags bucket key id tags) stamp = stamp.n
+n_of (command.SetHold bucket key id hold) stamp = stamp.n
 n_of _ stamp = 0
 
 -- the greatest n that the commands have, 0 where they have none

@@ -1,22 +1,87 @@
 -- A bucket's rows.
-use Rattle.std.specs.Prelude.{List, [], ◌∷◌, ◌++◌, Option, Some, None, if◌then◌else◌}
+use Rattle.std.specs.Prelude.{Bool, false, not, ◌&&◌, List, [], ◌∷◌, ◌++◌, Option, Some, None, if◌then◌else◌, map}
+use Rattle.std.specs.List.{list_any, cons_option}
 use Rattle.std.specs.Str.{bytes_eq}
+use Rattle.s3r_names.specs.Stamp.{is_before}
+use Rattle.s3r_names.specs.declared.stamp.Stamp.{Stamp}
+use Rattle.s3r_names.specs.declared.tags.Tag.{Tag}
 use Rattle.s3r_names.specs.declared.version.VersionId.{VersionId}
+use Rattle.s3r_record.specs.declared.command.Command.{Command}
+use Rattle.s3r_record.specs.declared.command.Command.TheVariants as command
 use Rattle.s3r_versions.specs.Lookup as lookup
+use Rattle.s3r_versions.specs.Lookup.{id_eq}
 use Rattle.s3r_versions.specs.Contents.{with_row}
-use Rattle.s3r_history.specs.Words.{Name}
+use Rattle.s3r_versions.specs.Removed.{with_id}
+use Rattle.s3r_history.specs.Words.{Name, newer_than}
 use Rattle.s3r_history.specs.Buckets.{creates}
-use Rattle.s3r_history.specs.Past.{Entry, Added, Past}
+use Rattle.s3r_history.specs.Past.{Entry, Added, Deed, Past}
 
--- what was added to the bucket
-abbrev pub added_to : Name → Option Added → List Entry
-added_to b None = []
-added_to b (Some a) = if bytes_eq a.bucket b then a.row ∷ [] else []
+-- the command's bucket, key and id are those of the version k, i of the bucket b
+abbrev pub names_it : Name → Name → VersionId → Name → Name → VersionId → Bool
+names_it bucket key id b k i = bytes_eq bucket b && (bytes_eq k key && id_eq i id)
 
--- what was added to the bucket since its birth, the newest first
+-- the command removes the version
+abbrev pub removes : Name → Name → VersionId → Command → Bool
+removes b k i (command.Remove bucket key id) = names_it bucket key id b k i
+removes b k i _ = false
+
+-- what is added to the bucket, and not removed later
+abbrev pub added_to : Name → List Command → Option Added → List Entry
+added_to b later None = []
+added_to b later (Some a) = if bytes_eq a.bucket b && not (list_any (removes b a.row.key a.row.id) later) then a.row ∷ [] else []
+
+-- what these deeds added to the bucket, the newest first, without what a later command removes
+abbrev pub standing : Name → List Command → Past → List Entry
+standing b later [] = []
+standing b later (d ∷ past) = added_to b later d.adds ++ standing b (d.command ∷ later) past
+
+-- the deeds since the bucket's last creation
+abbrev pub life : Name → Past → Past
+life b past = newer_than (λ (d : Deed). creates b d.command) past
+
+-- the versions of a bucket as they were added, the newest first
 abbrev pub versions : Past → Name → List Entry
-versions [] b = []
-versions (d ∷ past) b = if creates b d.command then [] else added_to b d.adds ++ versions past b
+versions past b = standing b [] (life b past)
+
+-- the deed added the version
+abbrev pub adds_it : Name → Name → VersionId → Option Added → Bool
+adds_it b k i None = false
+adds_it b k i (Some a) = names_it a.bucket a.row.key a.row.id b k i
+
+-- what a command writes about the tags of a version that is there, and about its hold
+abbrev pub tag_write : Name → Name → VersionId → Stamp → Command → Option (Stamp × List Tag)
+tag_write b k i stamp (command.SetTags bucket key id tags) = if names_it bucket key id b k i then Some (stamp, tags) else None
+tag_write b k i stamp _ = None
+
+abbrev pub hold_write : Name → Name → VersionId → Stamp → Command → Option (Stamp × Bool)
+hold_write b k i stamp (command.SetHold bucket key id hold) = if names_it bucket key id b k i then Some (stamp, hold) else None
+hold_write b k i stamp _ = None
+
+-- what was written about a version since the deed that added it, the newest first
+abbrev pub writes : {X : Type 0} → (Deed → Option X) → (Option Added → Bool) → Past → List X
+writes f adds [] = []
+writes f adds (d ∷ past) = if adds d.adds then [] else cons_option (f d) (writes f adds past)
+
+-- Of the value that a version was added with and those written since, newest first: the first whose stamp no other exceeds.
+abbrev pub newer_of : {X : Type 0} → Stamp × X → Stamp × X → Stamp × X
+newer_of w v = if is_before v.0 w.0 then w else v
+
+abbrev pub greatest : {X : Type 0} → Stamp × X → List (Stamp × X) → Stamp × X
+greatest first [] = first
+greatest first (w ∷ ws) = newer_of w (greatest first ws)
+
+abbrev pub tags_of : Past → Name → Entry → Stamp × List Tag
+tags_of past b v = greatest (v.tags_stamp, v.tags) (writes (λ (d : Deed). tag_write b v.key v.id d.stamp d.command) (adds_it b v.key v.id) past)
+
+abbrev pub hold_of : Past → Name → Entry → Stamp × Bool
+hold_of past b v = greatest (v.hold_stamp, v.hold) (writes (λ (d : Deed). hold_write b v.key v.id d.stamp d.command) (adds_it b v.key v.id) past)
+
+abbrev pub set_to : Entry → Stamp × List Tag → Stamp × Bool → Entry
+set_to v t h = record v { tags = t.1; tags_stamp = t.0; hold = h.1; hold_stamp = h.0 }
+
+-- a version with its present tags and hold
+abbrev pub at_present : Past → Name → Entry → Entry
+at_present past b v = set_to v (tags_of past b v) (hold_of past b v)
 
 -- rows in the listing order
 abbrev pub in_order : List Entry → List Entry
@@ -25,10 +90,27 @@ in_order (row ∷ rows) = with_row row (in_order rows)
 
 -- the rows of a bucket, as they are listed
 abbrev pub rows : Past → Name → List Entry
-rows past b = in_order (versions past b)
+rows past b = in_order (map (at_present past b) (versions past b))
 
 abbrev pub row_at : Past → Name → Name → VersionId → Option Entry
 row_at past b key id = lookup.find_version key id (rows past b)
 
 abbrev pub latest : Past → Name → Name → Option Entry
 latest past b key = lookup.latest key (rows past b)
+
+-- the id that the command removes from the bucket
+abbrev pub removed_id : Name → Command → Option VersionId
+removed_id b (command.Remove bucket key id) = if bytes_eq bucket b then Some id else None
+removed_id b _ = None
+
+abbrev pub with_removed : Option VersionId → List VersionId → List VersionId
+with_removed None ids = ids
+with_removed (Some id) ids = with_id id ids
+
+abbrev pub ids_removed : Name → Past → List VersionId
+ids_removed b [] = []
+ids_removed b (d ∷ past) = with_removed (removed_id b d.command) (ids_removed b past)
+
+-- the ids removed since the bucket's last creation, rising, each once
+abbrev pub removed : Past → Name → List VersionId
+removed past b = ids_removed b (life b past)

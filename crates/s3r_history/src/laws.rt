@@ -1,13 +1,16 @@
 //! What is true of every history.
 
-ghost use Rattle.s3r_history.specs.Laws.{RowsAreListed, IdsAreOwn, IdsAreNew, PutIsLatest, NamesAreThose, NoNameTwice};
+ghost use Rattle.s3r_history.specs.Laws.{RowsAreListed, IdsAreOwn, IdsAreNew, PutIsLatest, MarkerIsLatest, RemovedIsGone, NamesAreThose, NoNameTwice};
 
-/// A bucket's rows stand in the listing order, each id is its command's and new, and what was put last is the latest.
+/// A bucket's rows stand in the listing order, each id is its command's and new, what was put last is the latest, and
+/// what was removed is gone.
 pub fn rows_are_listed()
     ensures listed { RowsAreListed }
     ensures own { IdsAreOwn }
     ensures new { IdsAreNew }
     ensures put_is_latest { PutIsLatest }
+    ensures marker_is_latest { MarkerIsLatest }
+    ensures removed_is_gone { RemovedIsGone }
 {}
 
 /// The names that are counted are those of the buckets that are there, each once.

@@ -1,18 +1,29 @@
 //! Why a command is refused.
 
-/// Why a command, or the request that asks for it, is refused. No command is refused for the last two: they are a desk's answers.
+/// Why a command, or the request that asks for it, is refused. No command is refused for `NoSuchKey` and
+/// `InvalidLocation`: they are a desk's answers.
 #[derive(Clone, Copy, Debug, PartialEq, Eq)]
 pub enum Refusal {
     /// The region has no bucket of this name.
     NoSuchBucket,
     /// The region has a bucket of this name.
     BucketAlreadyExists,
+    /// The bucket has a version or a marker.
+    BucketNotEmpty,
+    /// The bucket has no version of this key, or the latest is a marker.
+    NoSuchKey,
+    /// The bucket has no version of this key and id.
+    NoSuchVersion,
+    /// The version is a marker.
+    MethodNotAllowed,
+    /// The version is under a hold.
+    AccessDenied,
+    /// The bucket's versioning is Suspended, or may not be.
+    InvalidBucketState,
     /// A hold needs a bucket with Object Lock.
     LockNeeded,
     /// The region has as many buckets as it may have.
     TooManyBuckets,
-    /// The bucket has no version of this key, or the latest is a marker.
-    NoSuchKey,
     /// No region has this name.
     InvalidLocation,
 }

@@ -6,3 +6,8 @@ pub mod Keys
 pub mod HexDigits
 pub mod TagTexts
 pub mod TagExamples
+pub mod TagOrder
+pub mod TagLaws
+pub mod TagQueries
+pub mod Arns
+pub mod ArnExamples

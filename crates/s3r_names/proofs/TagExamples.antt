@@ -1,7 +1,10 @@
 -- Tags that are a set, and tags that are none.
 use Rattle.std.proofs.Common.{◌≡◌, true, false, List, [], ◌∷◌, ℕ, refl, replicate, codes}
 use Rattle.std.specs.Str.{is_utf8, chars}
-use Rattle.s3r_names.specs.Tags.{is_tag_key, is_tag_value, is_tag_set}
+use Rattle.form_urlencoded.specs.Form.{raw_pairs, split, byte_serialize}
+use Rattle.percent_encoding.specs.Percent.{percent_decode, percent_encode_byte}
+use Rattle.s3r_names.specs.Tags.{is_tag_key, is_tag_value, is_tag_set, is_tag_list, in_key_order}
+use Rattle.s3r_names.specs.Query.{query_tags, query_text}
 use Rattle.s3r_names.specs.declared.tags.Tag.{Tag}
 
 abbrev tag : List ℕ → Tag
@@ -46,3 +49,24 @@ longest_key = refl
 too_long_key : is_tag_key (replicate 129 97) ≡ false
 unfolding is_utf8 chars lib.Utf8.encode
 too_long_key = refl
+
+-- the order is that of bytes
+in_order : in_key_order (tag (codes "b") ∷ tag (codes "ab") ∷ tag (codes "Z") ∷ tag (codes "a") ∷ []) ≡ (tag (codes "Z") ∷ tag (codes "a") ∷ tag (codes "ab") ∷ tag (codes "b") ∷ [])
+in_order = refl
+
+any_order : is_tag_list (tag (codes "b") ∷ tag (codes "a") ∷ []) ≡ true
+unfolding is_utf8 chars lib.Utf8.encode
+any_order = refl
+
+key_twice : is_tag_list (tag (codes "a") ∷ tag (codes "b") ∷ tag (codes "a") ∷ []) ≡ false
+unfolding is_utf8 chars lib.Utf8.encode
+key_twice = refl
+
+-- `a+b=c%2B`
+form_read : query_tags (codes "a+b=c%2B") ≡ (record { key = codes "a b"; value = codes "c+" } ∷ [])
+unfolding raw_pairs split percent_decode
+form_read = refl
+
+form_printed : query_text (record { key = codes "a b"; value = codes "c+" } ∷ tag (codes "k") ∷ []) ≡ codes "a+b=c%2B&k="
+unfolding byte_serialize percent_encode_byte
+form_printed = refl

@@ -4,3 +4,6 @@ pub mod Class
 pub mod Stamp
 pub mod Version
 pub mod Tags
+pub mod Query
+pub mod Arn
+pub mod Laws

@@ -1,7 +1,7 @@
 ghost use Rattle.std.specs.Prelude.{◌≡◌};
 ghost use Rattle.s3r_names.specs.declared.fault.NameFault.TheVariants.{OutOfMemory};
 
-use std::alloc::AllocError;
+use std::alloc::{AllocError, AllocFailed};
 use thiserror::Error;
 
 /// Why bytes are no name.
@@ -17,6 +17,8 @@ pub enum NameFault {
     InvalidStorageClass,
     #[error("not a tag")]
     InvalidTag,
+    #[error("not the ARN of a bucket or an object")]
+    InvalidArn,
     #[error("out of memory")]
     OutOfMemory,
 }
@@ -25,6 +27,14 @@ impl From<AllocError> for NameFault {
     ghost from_gives = { λ _ fault. fault ≡ OutOfMemory };
 
     fn from(_error: AllocError) -> NameFault {
+        NameFault::OutOfMemory
+    }
+}
+
+impl<T: Drop> From<AllocFailed<T>> for NameFault {
+    ghost from_gives = { λ _ fault. fault ≡ OutOfMemory };
+
+    fn from(_error: AllocFailed<T>) -> NameFault {
         NameFault::OutOfMemory
     }
 }

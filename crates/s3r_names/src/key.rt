@@ -100,3 +100,9 @@ fn key_text(bytes: &[u8]) -> Option<&str>
     }
     str::from_utf8(bytes).ok()
 }
+
+pub(crate) fn is_key(bytes: &[u8]) -> bool
+    ensures { result ≡ is_key bytes.now }
+{
+    key_text(bytes).is_some()
+}

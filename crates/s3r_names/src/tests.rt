@@ -154,3 +154,128 @@ fn version_ids(rt: HostRuntime) {
         assert_eq!(rt; VersionId::read(bytes), None);
     }
 }
+
+fn tags_of(alloc: Global, rows: &[(&str, &str)]) -> Result<Vec<Tag>, NameFault> {
+    let mut tags = Vec::new(alloc);
+    for (key, value) in rows {
+        tags.push(Tag {
+            key: Text::from_str(alloc, key)?,
+            value: Text::from_str(alloc, value)?,
+        })?;
+    }
+    Ok(tags)
+}
+
+#[test]
+fn tags_in_any_order(rt: HostRuntime) -> Result<(), Fail> {
+    let rows: [(&[(&str, &str)], &str); 3] = [
+        (&[], ""),
+        (
+            &[("b", "1"), ("a", "2"), ("ab", "3"), ("Z", "4")],
+            "Z=4&a=2&ab=3&b=1",
+        ),
+        (&[("é", ""), ("z", ""), ("ä", "")], "z=&%C3%A4=&%C3%A9="),
+    ];
+    for (tags, text) in rows {
+        let set = TagSet::from_pairs(tags_of(rt.alloc(), tags)?)?;
+        assert_eq!(rt; set.print_query(rt.alloc())?.as_str(), text);
+    }
+    Ok(())
+}
+
+#[test]
+fn tags_of_many_characters(rt: HostRuntime) -> Result<(), Fail> {
+    let rows = [
+        ("é", 128, 256, true),
+        ("x", 0, 0, false),
+        ("x", 129, 0, false),
+        ("é", 129, 0, false),
+        ("x", 1, 257, false),
+    ];
+    for (letter, key_count, value_count, is_tag) in rows {
+        let key = letter.repeat(rt.alloc(), key_count)?;
+        let value = letter.repeat(rt.alloc(), value_count)?;
+        let tags = tags_of(rt.alloc(), &[(key.as_str(), value.as_str())])?;
+        assert_eq!(rt; TagSet::from_pairs(tags).is_ok(), is_tag);
+    }
+    Ok(())
+}
+
+#[test]
+fn queries_of_tags(rt: HostRuntime) -> Result<(), Fail> {
+    let rows: [(&[u8], Option<&str>); 15] = [
+        (b"a=1&b=", Some("a=1&b=")),
+        (b"b=2&a=1", Some("a=1&b=2")),
+        (b"a", Some("a=")),
+        (b"a=%zz", Some("a=%25zz")),
+        (b"a+b=c%2B", Some("a+b=c%2B")),
+        (b"a%20b=c%2b", Some("a+b=c%2B")),
+        (b"a=b=c", Some("a=b%3Dc")),
+        (b"", Some("")),
+        (b"&&", Some("")),
+        (
+            b"j&i&h&g&f&e&d&c&b&a",
+            Some("a=&b=&c=&d=&e=&f=&g=&h=&i=&j="),
+        ),
+        (b"a=%80", None),
+        (b"%ff=1", None),
+        (b"a=1&a=2", None),
+        (b"=1", None),
+        (b"a&b&c&d&e&f&g&h&i&j&k", None),
+    ];
+    for (query, text) in rows {
+        match TagSet::read_query(rt.alloc(), query) {
+            Ok(set) => {
+                assert_eq!(rt; Some(set.print_query(rt.alloc())?.as_str()), text);
+            }
+            Err(fault) => {
+                assert_eq!(rt; fault, NameFault::InvalidTag);
+                assert!(rt; text.is_none());
+            }
+        }
+    }
+    Ok(())
+}
+
+#[test]
+fn pairs_of_forms(rt: HostRuntime) -> Result<(), Fail> {
+    let pairs = form_pairs(rt.alloc(), b"a+b=c%2B&&a=%ff&k")?;
+    let rows: [(&[u8], &[u8]); 3] = [(b"a b", b"c+"), (b"a", b"\xff"), (b"k", b"")];
+    assert_eq!(rt; pairs.len(), 3);
+    for ((name, value), row) in pairs.iter().zip(rows) {
+        assert_eq!(rt; name.as_slice(), row.0);
+        assert_eq!(rt; value.as_slice(), row.1);
+    }
+    Ok(())
+}
+
+#[test]
+fn arns(rt: HostRuntime) -> Result<(), Fail> {
+    let rows = [
+        ("arn:aws:s3:::abc", true),
+        ("arn:aws:s3:::abc/k", true),
+        ("arn:aws:s3:::a-c.d//k/é", true),
+        ("", false),
+        ("abc", false),
+        ("arn:aws:s3:::", false),
+        ("arn:aws:s3::abc", false),
+        ("ARN:aws:s3:::abc", false),
+        (" arn:aws:s3:::abc", false),
+        ("arn:aws:s3:::ab", false),
+        ("arn:aws:s3:::abc/", false),
+        ("arn:aws:s3:::/k", false),
+    ];
+    for (text, is_arn) in rows {
+        match Arn::read(rt.alloc(), text) {
+            Ok(arn) => {
+                assert!(rt; is_arn);
+                assert_eq!(rt; arn.print(rt.alloc())?.as_str(), text);
+            }
+            Err(fault) => {
+                assert!(rt; !is_arn);
+                assert_eq!(rt; fault, NameFault::InvalidArn);
+            }
+        }
+    }
+    Ok(())
+}

@@ -4,9 +4,12 @@ use Rattle.std.specs.Str.{is_utf8, chars}
 use Rattle.s3r_record.specs.declared.command.Command.{Command}
 use Rattle.s3r_record.specs.declared.command.Command.TheVariants as command
 use Rattle.s3r_record.specs.Spelling.{spelling, frame}
-use Rattle.s3r_record.specs.Reading.{flag_at, sized_at, tested_at}
-use Rattle.s3r_record.specs.ReadingTags.{tag_at, tags_after, count_at, tags_at}
-use Rattle.s3r_record.specs.Commands.{create_bucket_at, put_at, fields_at, command_at}
+use Rattle.s3r_record.specs.Reading.{byte_at, flag_at, sized_at, tested_at}
+use Rattle.s3r_record.specs.ReadingTags.{tag_at, tags_after, tags_at}
+use Rattle.s3r_record.specs.ReadingIds.{region_at, index_at, id_at}
+use Rattle.s3r_record.specs.BucketCommands.{create_bucket_at, delete_bucket_at, set_versioning_at}
+use Rattle.s3r_record.specs.VersionCommands.{put_at, marker_at, remove_at, set_tags_at, set_hold_at}
+use Rattle.s3r_record.specs.Commands.{fields_at, command_at}
 
 abbrev fault_at : ℕ → Result Command ℕ
 fault_at place = Err place
@@ -70,22 +73,93 @@ hi : spelling (command.Put (codes "abc") (codes "a") [] false (codes "STANDARD")
 hi = refl
 
 hi_read : command_at (to_tags ++ 0 ∷ from_hold) ≡ Ok (command.Put (codes "abc") (codes "a") [] false (codes "STANDARD") (codes "hi"))
-unfolding command_at fields_at put_at tested_at sized_at flag_at tags_at count_at tags_after is_utf8 chars lib.Utf8.encode
+unfolding command_at fields_at put_at tested_at sized_at flag_at tags_at byte_at tags_after is_utf8 chars lib.Utf8.encode
 hi_read = refl
 
 rising_tags_read : command_at (to_tags ++ (2 ∷ 0 ∷ 1 ∷ 97 ∷ 0 ∷ 0 ∷ 0 ∷ 1 ∷ 98 ∷ 0 ∷ 1 ∷ 99 ∷ []) ++ from_hold)
     ≡ Ok (command.Put (codes "abc") (codes "a") (record { key = codes "a"; value = [] } ∷ record { key = codes "b"; value = codes "c" } ∷ []) false (codes "STANDARD") (codes "hi"))
-unfolding command_at fields_at put_at tested_at sized_at flag_at tags_at count_at tags_after tag_at is_utf8 chars lib.Utf8.encode
+unfolding command_at fields_at put_at tested_at sized_at flag_at tags_at byte_at tags_after tag_at is_utf8 chars lib.Utf8.encode
 rising_tags_read = refl
 
 falling_tags : command_at (to_tags ++ (2 ∷ 0 ∷ 1 ∷ 98 ∷ 0 ∷ 0 ∷ 0 ∷ 1 ∷ 97 ∷ 0 ∷ 0 ∷ []) ++ from_hold) ≡ fault_at 15
-unfolding command_at fields_at put_at tested_at sized_at flag_at tags_at count_at tags_after tag_at is_utf8 chars lib.Utf8.encode
+unfolding command_at fields_at put_at tested_at sized_at flag_at tags_at byte_at tags_after tag_at is_utf8 chars lib.Utf8.encode
 falling_tags = refl
 
 eleven_tags : command_at (to_tags ++ 11 ∷ from_hold) ≡ fault_at 9
-unfolding command_at fields_at put_at tested_at sized_at flag_at tags_at count_at is_utf8 chars lib.Utf8.encode
+unfolding command_at fields_at put_at tested_at sized_at flag_at tags_at byte_at is_utf8 chars lib.Utf8.encode
 eleven_tags = refl
 
 cut_body : command_at (to_tags ++ 0 ∷ 0 ∷ 0 ∷ 1 ∷ 65 ∷ 0 ∷ 0 ∷ 0 ∷ 2 ∷ 104 ∷ []) ≡ fault_at 14
-unfolding command_at fields_at put_at tested_at sized_at flag_at tags_at count_at tags_after is_utf8 chars lib.Utf8.encode
+unfolding command_at fields_at put_at tested_at sized_at flag_at tags_at byte_at tags_after is_utf8 chars lib.Utf8.encode
 cut_body = refl
+
+-- ---- the other commands about a bucket
+
+delete_spelled : spelling (command.DeleteBucket (codes "abc")) ≡ 2 ∷ 0 ∷ 3 ∷ 97 ∷ 98 ∷ 99 ∷ []
+delete_spelled = refl
+
+delete_read : command_at (2 ∷ 0 ∷ 3 ∷ 97 ∷ 98 ∷ 99 ∷ []) ≡ Ok (command.DeleteBucket (codes "abc"))
+unfolding command_at fields_at delete_bucket_at tested_at sized_at
+delete_read = refl
+
+suspended_spelled : spelling (command.SetVersioning (codes "abc") false) ≡ 3 ∷ 0 ∷ 3 ∷ 97 ∷ 98 ∷ 99 ∷ 0 ∷ []
+suspended_spelled = refl
+
+enabled_read : command_at (3 ∷ 0 ∷ 3 ∷ 97 ∷ 98 ∷ 99 ∷ 1 ∷ []) ≡ Ok (command.SetVersioning (codes "abc") true)
+unfolding command_at fields_at set_versioning_at tested_at sized_at flag_at
+enabled_read = refl
+
+-- ---- commands about a version: bucket abc, key a, then the id 7 and 258
+
+abbrev row_id : List ℕ
+row_id = 7 ∷ 0 ∷ 0 ∷ 0 ∷ 0 ∷ 0 ∷ 0 ∷ 1 ∷ 2 ∷ []
+
+abbrev to_id : ℕ → List ℕ
+to_id kind = kind ∷ 0 ∷ 3 ∷ 97 ∷ 98 ∷ 99 ∷ 0 ∷ 1 ∷ 97 ∷ []
+
+marker_spelled : spelling (command.Marker (codes "abc") (codes "a")) ≡ to_id 7
+marker_spelled = refl
+
+marker_read : command_at (to_id 7) ≡ Ok (command.Marker (codes "abc") (codes "a"))
+unfolding command_at fields_at marker_at tested_at sized_at is_utf8 chars lib.Utf8.encode
+marker_read = refl
+
+no_key : command_at (7 ∷ 0 ∷ 3 ∷ 97 ∷ 98 ∷ 99 ∷ 0 ∷ 1 ∷ 255 ∷ []) ≡ fault_at 6
+unfolding command_at fields_at marker_at tested_at sized_at is_utf8 chars lib.Utf8.encode
+no_key = refl
+
+remove_spelled : spelling (command.Remove (codes "abc") (codes "a") (record { region = 7; index = 258 })) ≡ to_id 8 ++ row_id
+remove_spelled = refl
+
+remove_read : command_at (to_id 8 ++ row_id) ≡ Ok (command.Remove (codes "abc") (codes "a") (record { region = 7; index = 258 }))
+unfolding command_at fields_at remove_at tested_at sized_at id_at region_at index_at byte_at is_utf8 chars lib.Utf8.encode
+remove_read = refl
+
+no_region : command_at (to_id 8) ≡ fault_at 9
+unfolding command_at fields_at remove_at tested_at sized_at id_at region_at index_at byte_at is_utf8 chars lib.Utf8.encode
+no_region = refl
+
+high_region : command_at (to_id 8 ++ 8 ∷ 0 ∷ 0 ∷ 0 ∷ 0 ∷ 0 ∷ 0 ∷ 0 ∷ 1 ∷ []) ≡ fault_at 9
+unfolding command_at fields_at remove_at tested_at sized_at id_at region_at index_at byte_at is_utf8 chars lib.Utf8.encode
+high_region = refl
+
+cut_index : command_at (to_id 8 ++ 7 ∷ 0 ∷ 0 ∷ 0 ∷ 0 ∷ 0 ∷ 0 ∷ 1 ∷ []) ≡ fault_at 10
+unfolding command_at fields_at remove_at tested_at sized_at id_at region_at index_at byte_at is_utf8 chars lib.Utf8.encode
+cut_index = refl
+
+no_index : command_at (to_id 8 ++ 7 ∷ 0 ∷ 0 ∷ 0 ∷ 0 ∷ 0 ∷ 0 ∷ 0 ∷ 0 ∷ []) ≡ fault_at 10
+unfolding command_at fields_at remove_at tested_at sized_at id_at region_at index_at byte_at is_utf8 chars lib.Utf8.encode
+no_index = refl
+
+set_tags_read : command_at (to_id 9 ++ row_id ++ 1 ∷ 0 ∷ 1 ∷ 98 ∷ 0 ∷ 1 ∷ 99 ∷ [])
+    ≡ Ok (command.SetTags (codes "abc") (codes "a") (record { region = 7; index = 258 }) (record { key = codes "b"; value = codes "c" } ∷ []))
+unfolding command_at fields_at set_tags_at tested_at sized_at id_at region_at index_at byte_at tags_at tags_after tag_at is_utf8 chars lib.Utf8.encode
+set_tags_read = refl
+
+set_hold_read : command_at (to_id 10 ++ row_id ++ 1 ∷ []) ≡ Ok (command.SetHold (codes "abc") (codes "a") (record { region = 7; index = 258 }) true)
+unfolding command_at fields_at set_hold_at tested_at sized_at id_at region_at index_at byte_at flag_at is_utf8 chars lib.Utf8.encode
+set_hold_read = refl
+
+other_hold : command_at (to_id 10 ++ row_id ++ 2 ∷ []) ≡ fault_at 18
+unfolding command_at fields_at set_hold_at tested_at sized_at id_at region_at index_at byte_at flag_at is_utf8 chars lib.Utf8.encode
+other_hold = refl

@@ -1,10 +1,9 @@
 -- The laws of each field.
-use Rattle.std.proofs.Common.{◌≡◌, ℕ, zero, suc, ◌^◌, ◌<◌, ◌≤◌, Bool, true, false, cond, ltb, List, [], ◌∷◌, ◌++◌, length, take, drop, Ok, Err, refl, sym, ap, subst, ◌∙◌, append_assoc, arith}
-use Rattle.std.specs.Int.{Width, w16, w32, byte_len, from_be_bytes, to_be_bytes}
-use Rattle.std.proofs.lemmas.Bool.{ltb-false, le-ltb}
-use Rattle.std.proofs.lemmas.Bool.Decides.{nat_tests}
+use Rattle.std.proofs.Common.{◌≡◌, ℕ, zero, suc, ◌^◌, ◌<◌, ◌≤◌, Bool, true, false, cond, nat_le, ltb, List, [], ◌∷◌, ◌++◌, length, take, drop, Ok, Err, refl, sym, ap, subst, ◌∙◌, append_assoc, arith}
+use Rattle.std.specs.Int.{Width, w16, w32, w64, byte_len, from_be_bytes, to_be_bytes}
+use Rattle.std.proofs.lemmas.Bool.{ltb-false, le-ltb, leb-true, le-leb}
 use Rattle.std.proofs.lemmas.List.{take_at, drop_at, take-append-drop, length-append, length-take}
-use Rattle.std.proofs.lemmas.Nat.{be_bytes_2, be_bytes_4, from_be_bytes-to_be_bytes_2, from_be_bytes-to_be_bytes_4}
+use Rattle.std.proofs.lemmas.Nat.{be_bytes_2, be_bytes_4, be_bytes_8, from_be_bytes-to_be_bytes_2, from_be_bytes-to_be_bytes_4, from_be_bytes-to_be_bytes_8}
 use Rattle.s3r_names.specs.Bucket.{is_bucket_name}
 use Rattle.s3r_names.specs.Key.{is_key}
 use Rattle.s3r_names.specs.Class.{is_class_name}
@@ -12,7 +11,7 @@ use Rattle.s3r_names.proofs.BucketNames.{name_is}
 use Rattle.s3r_names.proofs.Keys.{key_is}
 use Rattle.s3r_names.proofs.ClassNames.{class_is}
 use Rattle.s3r_record.specs.Fields.{sized, text, body, flag}
-use Rattle.s3r_record.specs.Reading.{Unread, place, past, number_at, flag_at, sized_at, tested_at, is_body}
+use Rattle.s3r_record.specs.Reading.{Unread, place, past, number_at, byte_at, flag_at, sized_at, tested_at, is_body}
 use Rattle.s3r_record.proofs.ReaderLaws.{IsBytes, IsBytes-drop, IsBytes-take, IsBytes-rest, bind_ok, guard_passed, guard_missed, ok_is, Takes, Takes-then, left, Reads, take_field}
 
 -- ---- numbers
@@ -39,6 +38,14 @@ wide32 = record {
   below = λ bytes fits. omega (arith, fits 0, fits 1, fits 2, fits 3);
 }
 
+pub wide64 : IsWide w64 (2 ^ 64)
+wide64 = record {
+  len = λ n. refl;
+  back = λ bytes len fits. be_bytes_8 bytes _ len fits refl;
+  again = λ n lt. from_be_bytes-to_be_bytes_8 n lt;
+  below = λ bytes fits. omega (arith, fits 0, fits 1, fits 2, fits 3, fits 4, fits 5, fits 6, fits 7);
+}
+
 number_takes : (w : Width) (limit : ℕ) (wide : IsWide w limit) (u : Unread) (x : ℕ × Unread) → IsBytes u.bytes → number_at w u ≡ Ok x → Takes u.bytes (to_be_bytes w x.0) x.1.bytes × (x.0 < limit)
 number_takes w limit wide u x fits e =
     let g = guard_missed (ltb (length u.bytes) (byte_len w)) (place u) (from_be_bytes w (take (byte_len w) u.bytes), past (byte_len w) u) x e in
@@ -55,6 +62,37 @@ number_again w limit wide whole n rest lt =
 
 pub number_law : (w : Width) (limit : ℕ) → IsWide w limit → Reads (number_at w) (to_be_bytes w) (λ n. n < limit)
 number_law w limit wide = record { takes = number_takes w limit wide; again = number_again w limit wide }
+
+-- ---- bytes of a few values
+
+-- a byte that was read, and where it stood
+pub record IsFirst (most : ℕ) (u : Unread) (x : ℕ × Unread) : Type 0 where
+  pub parts : u.bytes ≡ x.0 ∷ x.1.bytes
+  pub few : x.0 ≤ most
+
+byte_read : (most whole : ℕ) (bytes : List ℕ) (x : ℕ × Unread) → byte_at most (left whole bytes) ≡ Ok x → IsFirst most (left whole bytes) x
+unfolding byte_at
+byte_read most whole [] x e = absurd cc
+byte_read most whole (byte ∷ bytes) x e =
+    let read = bind_ok (cond (nat_le byte most) (Ok (byte, bytes)) (Err (place (left whole (byte ∷ bytes))))) (λ read. Ok (read.0, left whole read.1)) x e in
+    let g = guard_passed (nat_le byte most) (place (left whole (byte ∷ bytes))) (byte, bytes) read.0 read.1 in
+    let same : (read.0.0, left whole read.0.1) ≡ x = ok_is (read.0.0, left whole read.0.1) x read.2 in
+    subst (IsFirst most (left whole (byte ∷ bytes))) (ap (λ (r : ℕ × List ℕ). (r.0, left whole r.1)) g.1 ∙ same) (record { parts = refl; few = leb-true byte most g.0 })
+
+pub byte_is : (most : ℕ) (u : Unread) (x : ℕ × Unread) → byte_at most u ≡ Ok x → IsFirst most u x
+byte_is most u x e = byte_read most u.whole u.bytes x e
+
+byte_takes : (most : ℕ) (u : Unread) (x : ℕ × Unread) → IsBytes u.bytes → byte_at most u ≡ Ok x → Takes u.bytes (x.0 ∷ []) x.1.bytes × (x.0 ≤ most)
+byte_takes most u x fits e =
+    let first = byte_is most u x e in
+    (record { parts = first.parts; rest_fits = IsBytes-rest x.0 x.1.bytes (subst IsBytes first.parts fits) }, first.few)
+
+byte_again : (most whole byte : ℕ) (rest : List ℕ) → byte ≤ most → byte_at most (left whole ((byte ∷ []) ++ rest)) ≡ Ok (byte, left whole rest)
+unfolding byte_at
+byte_again most whole byte rest few = rw (le-leb byte most few) refl
+
+pub byte_law : (most : ℕ) → Reads (byte_at most) (λ byte. byte ∷ []) (λ byte. byte ≤ most)
+byte_law most = record { takes = byte_takes most; again = byte_again most }
 
 -- ---- flags
 
@@ -139,11 +177,5 @@ key_law = text_law is_key (λ key named. let s = (key_is key named).short in ome
 pub class_law : Reads (tested_at w16 is_class_name) text (λ class. is_class_name class ≡ true)
 class_law = text_law is_class_name (λ class named. let s = (class_is class named).short in omega arith)
 
-pub body_is : (bytes : List ℕ) → is_body bytes ≡ true → length bytes ≤ 4194304
-body_is bytes h = grind (arith, nat_tests)
-
-pub body_passes : (bytes : List ℕ) → length bytes ≤ 4194304 → is_body bytes ≡ true
-body_passes bytes h = grind (arith, nat_tests)
-
 pub body_law : Reads (tested_at w32 is_body) body (λ bytes. is_body bytes ≡ true)
-body_law = tested_law w32 (2 ^ 32) wide32 is_body (λ bytes short. let s = body_is bytes short in omega arith)
+body_law = tested_law w32 (2 ^ 32) wide32 is_body (λ bytes short. let s = leb-true (length bytes) 4194304 short in omega arith)

@@ -1,30 +1,57 @@
 -- How long spellings are.
-use Rattle.std.proofs.Common.{◌≡◌, ℕ, ◌+◌, ◌*◌, ◌≤◌, Bool, true, false, List, [], ◌∷◌, ◌++◌, length, refl, ap, arith, length-append}
+use Rattle.std.proofs.Common.{◌≡◌, ℕ, ◌+◌, ◌*◌, ◌≤◌, ◌<◌, Bool, true, false, List, [], ◌∷◌, ◌++◌, length, refl, ap, arith, length-append, lit<}
 use Rattle.std.specs.Int.{w16, w32, to_be_bytes}
 use Rattle.std.specs.List.{list_all, flat_map}
 use Rattle.std.proofs.lemmas.Bool.{and_parts}
 use Rattle.std.proofs.lemmas.List.Concat.{flat_map-cons}
-use Rattle.s3r_names.specs.Tags.{is_tag}
+use Rattle.s3r_names.specs.Bucket.{is_bucket_name}
+use Rattle.s3r_names.specs.Key.{is_key}
+use Rattle.s3r_names.specs.Class.{is_class_name}
+use Rattle.s3r_names.specs.Tags.{is_tag, is_tag_set}
 use Rattle.s3r_names.specs.declared.tags.Tag.{Tag}
+use Rattle.s3r_names.specs.declared.version.VersionId.{VersionId}
 use Rattle.s3r_names.proofs.BucketNames.{name_is}
 use Rattle.s3r_names.proofs.Keys.{key_is}
 use Rattle.s3r_names.proofs.ClassNames.{class_is}
 use Rattle.s3r_names.proofs.TagTexts.{tag_is}
 use Rattle.s3r_record.specs.declared.command.Command.{Command}
 use Rattle.s3r_record.specs.declared.command.Command.TheVariants as command
-use Rattle.s3r_record.specs.Fields.{text, body, flag, tag_bytes, tags_bytes}
+use Rattle.s3r_record.specs.Fields.{text, body, flag, tag_bytes, tags_bytes, id_bytes}
 use Rattle.s3r_record.specs.Spelling.{spelling, IsCommand, HasShortBody}
 use Rattle.s3r_record.proofs.TagLaws.{set_is}
+
+-- ---- one field
+
+pub record IsShort (limit : ℕ) (bytes : List ℕ) : Type 0 where
+  pub short : length bytes ≤ limit
 
 length-text : (bytes : List ℕ) → length (text bytes) ≡ 2 + length bytes
 length-text bytes = omega (arith, length-append (to_be_bytes w16 (length bytes)) bytes)
 
-length-body : (bytes : List ℕ) → length (body bytes) ≡ 4 + length bytes
-length-body bytes = omega (arith, length-append (to_be_bytes w32 (length bytes)) bytes)
+bucket_short : (bucket : List ℕ) → is_bucket_name bucket ≡ true → IsShort 65 (text bucket)
+bucket_short bucket named = record { short = omega (arith, length-text bucket, (name_is bucket named).short) }
+
+key_short : (key : List ℕ) → is_key key ≡ true → IsShort 1026 (text key)
+key_short key named = record { short = omega (arith, length-text key, (key_is key named).short) }
+
+class_short : (class : List ℕ) → is_class_name class ≡ true → IsShort 34 (text class)
+class_short class named = record { short = omega (arith, length-text class, (class_is class named).short) }
+
+body_short : (bytes : List ℕ) → length bytes ≤ 4194304 → IsShort 4194308 (body bytes)
+body_short bytes short = record { short = omega (arith, length-append (to_be_bytes w32 (length bytes)) bytes) }
 
 length-flag : (value : Bool) → length (flag value) ≡ 1
 length-flag true = refl
 length-flag false = refl
+
+flag_short : (value : Bool) → IsShort 1 (flag value)
+flag_short value = record { short = omega (arith, length-flag value) }
+
+length-id_bytes : (id : VersionId) → length (id_bytes id) ≡ 9
+length-id_bytes id = refl
+
+id_short : (id : VersionId) → IsShort 9 (id_bytes id)
+id_short id = record { short = omega (arith, length-id_bytes id) }
 
 length-tag_bytes : (tag : Tag) → is_tag tag ≡ true → length (tag_bytes tag) ≤ 1540
 length-tag_bytes tag ruled =
@@ -37,23 +64,34 @@ length-tags (tag ∷ tags) ruled =
     let r = and_parts (is_tag tag) (list_all is_tag tags) ruled in
     omega (arith, ap length (flat_map-cons tag_bytes tag tags), length-append (tag_bytes tag) (flat_map tag_bytes tags), length-tag_bytes tag r.0, length-tags tags r.1)
 
-put_short : (a b c d e f : List ℕ) → length a ≤ 65 → length b ≤ 1026 → length c ≤ 15401 → length d ≤ 1 → length e ≤ 34 → length f ≤ 4194308 → length (6 ∷ (a ++ b ++ c ++ d ++ e ++ f)) ≤ 16777216
-put_short a b c d e f ha hb hc hd he hf =
-    omega (arith, length-append (a ++ b ++ c ++ d ++ e) f, length-append (a ++ b ++ c ++ d) e, length-append (a ++ b ++ c) d, length-append (a ++ b) c, length-append a b)
+tags_short : (tags : List Tag) → is_tag_set tags ≡ true → IsShort 15401 (tags_bytes tags)
+tags_short tags ruled = let set = set_is tags ruled in record { short = omega (arith, length-tags tags set.ruled, set.few) }
+
+-- ---- a command
+
+joined : {a b : List ℕ} {m n : ℕ} → IsShort m a → IsShort n b → IsShort (m + n) (a ++ b)
+joined {a = a} {b = b} first second = record { short = omega (arith, length-append a b, first.short, second.short) }
+
+fits : {limit : ℕ} {fields : List ℕ} (kind : ℕ) → IsShort limit fields → limit < 16777216 → length (kind ∷ fields) ≤ 16777216
+fits kind fields below = omega (arith, fields.short)
 
 pub spelling_short : (c : Command) → IsCommand c → length (spelling c) ≤ 16777216
-spelling_short (command.CreateBucket name locked) is =
-    omega (arith, length-append (text name) (flag locked), length-text name, length-flag locked, (name_is name is).short)
+spelling_short (command.CreateBucket name locked) is = fits 1 (joined (bucket_short name is) (flag_short locked)) (lit< tt)
+spelling_short (command.DeleteBucket name) is = fits 2 (bucket_short name is) (lit< tt)
+spelling_short (command.SetVersioning name enabled) is = fits 3 (joined (bucket_short name is) (flag_short enabled)) (lit< tt)
 spelling_short (command.Put bucket key tags hold class bytes) is =
-    let set = set_is tags is.2 in
-    put_short (text bucket) (text key) (tags_bytes tags) (flag hold) (text class) (body bytes)
-    (omega (arith, length-text bucket, (name_is bucket is.0).short))
-    (omega (arith, length-text key, (key_is key is.1).short))
-    (omega (arith, length-tags tags set.ruled, set.few))
-    (omega (arith, length-flag hold))
-    (omega (arith, length-text class, (class_is class is.3).short))
-    (omega (arith, length-body bytes, is.4))
+    fits 6 (joined (joined (joined (joined (joined (bucket_short bucket is.0) (key_short key is.1)) (tags_short tags is.2)) (flag_short hold)) (class_short class is.3)) (body_short bytes is.4)) (lit< tt)
+spelling_short (command.Marker bucket key) is = fits 7 (joined (bucket_short bucket is.0) (key_short key is.1)) (lit< tt)
+spelling_short (command.Remove bucket key id) is = fits 8 (joined (joined (bucket_short bucket is.0) (key_short key is.1)) (id_short id)) (lit< tt)
+spelling_short (command.SetTags bucket key id tags) is = fits 9 (joined (joined (joined (bucket_short bucket is.0) (key_short key is.1)) (id_short id)) (tags_short tags is.3)) (lit< tt)
+spelling_short (command.SetHold bucket key id hold) is = fits 10 (joined (joined (joined (bucket_short bucket is.0) (key_short key is.1)) (id_short id)) (flag_short hold)) (lit< tt)
 
 pub short_body : (c : Command) → IsCommand c → HasShortBody c
 short_body (command.CreateBucket name locked) is = tt
+short_body (command.DeleteBucket name) is = tt
+short_body (command.SetVersioning name enabled) is = tt
 short_body (command.Put bucket key tags hold class bytes) is = is.4
+short_body (command.Marker bucket key) is = tt
+short_body (command.Remove bucket key id) is = is.2
+short_body (command.SetTags bucket key id tags) is = is.2
+short_body (command.SetHold bucket key id hold) is = is.2

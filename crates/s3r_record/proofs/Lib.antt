@@ -1,7 +1,11 @@
 pub mod ReaderLaws
+pub mod SeveralFields
 pub mod FieldLaws
 pub mod TagLaws
 pub mod TagLoop
+pub mod IdLaws
+pub mod BucketLaws
+pub mod VersionLaws
 pub mod CommandLaws
 pub mod Lengths
 pub mod Examples

@@ -53,9 +53,6 @@ pub record Takes (bytes text rest : List ℕ) : Type 0 where
 pub Takes-then : (a x b y c : List ℕ) → Takes a x b → Takes b y c → Takes a (x ++ y) c
 Takes-then a x b y c p q = record { parts = p.parts ∙ ap (λ (t : List ℕ). x ++ t) q.parts ∙ sym (append_assoc x y c); rest_fits = q.rest_fits }
 
-pub Takes-behind : (byte : ℕ) (bytes text rest : List ℕ) → Takes bytes text rest → Takes (byte ∷ bytes) (byte ∷ text) rest
-Takes-behind byte bytes text rest taken = record { parts = ap (λ (all : List ℕ). byte ∷ all) taken.parts; rest_fits = taken.rest_fits }
-
 abbrev pub left : ℕ → List ℕ → Unread
 left whole bytes = record { whole = whole; bytes = bytes }
 

@@ -2,18 +2,18 @@
 use Rattle.std.proofs.Common.{◌≡◌, ℕ, zero, suc, ◌≤◌, Bool, true, false, cond, ◌&&◌, nat_le, List, [], ◌∷◌, ◌++◌, length, Option, Some, None, Ok, Err, refl, sym, ap, subst, ◌∙◌, append_assoc, arith}
 use Rattle.std.specs.Int.{w16}
 use Rattle.std.specs.List.{list_all, zip, flat_map}
-use Rattle.std.proofs.lemmas.Bool.{and_parts, and_from}
-use Rattle.std.proofs.lemmas.Bool.Decides.{nat_tests}
+use Rattle.std.proofs.lemmas.Bool.{and_parts, and_from, leb-true, le-leb}
 use Rattle.std.proofs.lemmas.List.Concat.{flat_map-cons}
 use Rattle.s3r_names.specs.Tags.{is_tag_key, is_tag_value, is_tag, is_key_below, has_rising_keys, is_tag_set}
 use Rattle.s3r_names.specs.declared.tags.Tag.{Tag}
 use Rattle.s3r_names.specs.declared.fault.NameFault.{NameFault}
 use Rattle.s3r_names.proofs.TagTexts.{text-length}
 use Rattle.s3r_record.specs.Fields.{text, tag_bytes, tags_bytes}
-use Rattle.s3r_record.specs.Reading.{◌>>=◌, Unread, place, tested_at}
-use Rattle.s3r_record.specs.ReadingTags.{rises_above, key_follows, tag_at, tags_after, count_at, tags_at}
-use Rattle.s3r_record.proofs.ReaderLaws.{IsBytes, IsBytes-rest, guard_passed, bind_ok, ok_is, Takes, Takes-then, left, Reads, take_field, read_again}
-use Rattle.s3r_record.proofs.FieldLaws.{text_law, tested_passes}
+use Rattle.s3r_record.specs.Reading.{◌>>=◌, Unread, byte_at, tested_at}
+use Rattle.s3r_record.specs.ReadingTags.{rises_above, key_follows, tag_at, tags_after, tags_at}
+use Rattle.s3r_record.proofs.ReaderLaws.{IsBytes, bind_ok, ok_is, Takes, Takes-then, left, Reads, take_field, read_again}
+use Rattle.s3r_record.proofs.FieldLaws.{byte_is, byte_law, text_law, tested_passes}
+use Rattle.s3r_record.proofs.SeveralFields.{take_then, take_end, again_then, again_end, reads}
 
 -- ---- one tag
 
@@ -27,23 +27,12 @@ tag_value_law = text_law is_tag_value (λ value named. omega (arith, text-length
 abbrev pub Follows : Option Tag → Tag → Type 0
 Follows before tag = (key_follows before tag.key ≡ true) × (is_tag_value tag.value ≡ true)
 
-tag_takes : (before : Option Tag) (u : Unread) (x : Tag × Unread) → IsBytes u.bytes → tag_at before u ≡ Ok x → Takes u.bytes (tag_bytes x.0) x.1.bytes × Follows before x.0
-unfolding tag_at
-tag_takes before u x fits e =
-    let key = take_field (tag_key_law before) (λ key. tested_at w16 is_tag_value key.1 >>= λ value. Ok (record { key = key.0; value = value.0 }, value.1)) u x fits e in
-    let value = take_field tag_value_law (λ value. Ok (record { key = key.value; value = value.0 }, value.1)) key.rest x key.takes.rest_fits key.gave in
-    let both = Takes-then u.bytes (text key.value) key.rest.bytes (text value.value) value.rest.bytes key.takes value.takes in
-    subst (λ (y : Tag × Unread). Takes u.bytes (tag_bytes y.0) y.1.bytes × Follows before y.0) (ok_is (record { key = key.value; value = value.value }, value.rest) x value.gave) (both, (key.fits, value.fits))
-
-tag_again : (before : Option Tag) (whole : ℕ) (tag : Tag) (rest : List ℕ) → Follows before tag → tag_at before (left whole (tag_bytes tag ++ rest)) ≡ Ok (tag, left whole rest)
-unfolding tag_at
-tag_again before whole tag rest follows =
-    ap (λ (bytes : List ℕ). tag_at before (left whole bytes)) (append_assoc (text tag.key) (text tag.value) rest)
-    ∙ read_again (tag_key_law before) (λ key. tested_at w16 is_tag_value key.1 >>= λ value. Ok (record { key = key.0; value = value.0 }, value.1)) whole tag.key (text tag.value ++ rest) follows.0
-    ∙ read_again tag_value_law (λ value. Ok (record { key = tag.key; value = value.0 }, value.1)) whole tag.value rest follows.1
-
 tag_law : (before : Option Tag) → Reads (tag_at before) tag_bytes (Follows before)
-tag_law before = record { takes = tag_takes before; again = tag_again before }
+unfolding tag_at
+tag_law before =
+    reads
+    (take_then _ (tag_key_law before) (λ key named. take_then _ tag_value_law (λ value ruled. take_end (record { key = key; value = value }) (named, ruled))))
+    (λ tag follows. again_then _ (tag_key_law before) tag.key follows.0 (again_then _ tag_value_law tag.value follows.1 (again_end tag)))
 
 -- ---- several
 
@@ -111,18 +100,12 @@ follow_after before (tag ∷ tags) ruled rising =
     let k = and_parts (is_key_below before.key tag.key) (list_all rises (zip (tag ∷ tags) tags)) rising in
     ((and_from (is_key_below before.key tag.key) (is_tag_key tag.key) k.0 t.0, t.1), follow_after tag tags r.1 k.1)
 
-few_passes : (n : ℕ) → n ≤ 10 → nat_le n 10 ≡ true
-few_passes n h = grind (arith, nat_tests)
-
-few_is : (n : ℕ) → nat_le n 10 ≡ true → n ≤ 10
-few_is n h = grind (arith, nat_tests)
-
 set_from_all : (tags : List Tag) → length tags ≤ 10 → FollowAll None tags → is_tag_set tags ≡ true
 set_from_all [] few follow = refl
 set_from_all (tag ∷ tags) few follow =
     let others = rising_after tag tags follow.1 in
     let ruled : list_all is_tag (tag ∷ tags) ≡ true = and_from (is_tag tag) (list_all is_tag tags) (and_from (is_tag_key tag.key) (is_tag_value tag.value) follow.0.0 follow.0.1) others.0 in
-    and_from (nat_le (length (tag ∷ tags)) 10 && list_all is_tag (tag ∷ tags)) (has_rising_keys (tag ∷ tags)) (and_from (nat_le (length (tag ∷ tags)) 10) (list_all is_tag (tag ∷ tags)) (few_passes (length (tag ∷ tags)) few) ruled) others.1
+    and_from (nat_le (length (tag ∷ tags)) 10 && list_all is_tag (tag ∷ tags)) (has_rising_keys (tag ∷ tags)) (and_from (nat_le (length (tag ∷ tags)) 10) (list_all is_tag (tag ∷ tags)) (le-leb (length (tag ∷ tags)) 10 few) ruled) others.1
 
 -- what a writer of a set uses of its rule
 pub record IsSet (tags : List Tag) : Type 0 where
@@ -141,48 +124,22 @@ pub set_is : (tags : List Tag) → is_tag_set tags ≡ true → IsSet tags
 set_is tags h =
     let a = and_parts (nat_le (length tags) 10 && list_all is_tag tags) (has_rising_keys tags) h in
     let b = and_parts (nat_le (length tags) 10) (list_all is_tag tags) a.0 in
-    record { few = few_is (length tags) b.0; ruled = b.1; follow = all_follow tags b.1 a.1 }
+    record { few = leb-true (length tags) 10 b.0; ruled = b.1; follow = all_follow tags b.1 a.1 }
 
 -- ---- the count, and all of them
 
--- a count that was read, and the byte that it stood in
-record Counts (u : Unread) (x : ℕ × Unread) : Type 0 where
-  parts : u.bytes ≡ x.0 ∷ x.1.bytes
-  few : x.0 ≤ 10
-
-counted : (whole : ℕ) (bytes : List ℕ) (x : ℕ × Unread) → count_at (left whole bytes) ≡ Ok x → Counts (left whole bytes) x
-unfolding count_at
-counted whole [] x e = absurd cc
-counted whole (count ∷ bytes) x e =
-    let read = bind_ok (cond (nat_le count 10) (Ok (count, bytes)) (Err (place (left whole (count ∷ bytes))))) (λ read. Ok (read.0, left whole read.1)) x e in
-    let g = guard_passed (nat_le count 10) (place (left whole (count ∷ bytes))) (count, bytes) read.0 read.1 in
-    let same : (read.0.0, left whole read.0.1) ≡ x = ok_is (read.0.0, left whole read.0.1) x read.2 in
-    subst (Counts (left whole (count ∷ bytes))) (ap (λ (r : ℕ × List ℕ). (r.0, left whole r.1)) g.1 ∙ same) (record { parts = refl; few = few_is count g.0 })
-
-count_takes : (u : Unread) (x : ℕ × Unread) → IsBytes u.bytes → count_at u ≡ Ok x → Takes u.bytes (x.0 ∷ []) x.1.bytes × (x.0 ≤ 10)
-count_takes u x fits e =
-    let count = counted u.whole u.bytes x e in
-    (record { parts = count.parts; rest_fits = IsBytes-rest x.0 x.1.bytes (subst IsBytes count.parts fits) }, count.few)
-
-count_again : (whole : ℕ) (count : ℕ) (rest : List ℕ) → count ≤ 10 → count_at (left whole ((count ∷ []) ++ rest)) ≡ Ok (count, left whole rest)
-unfolding count_at
-count_again whole count rest few = rw (few_passes count few) refl
-
-count_law : Reads count_at (λ count. count ∷ []) (λ count. count ≤ 10)
-count_law = record { takes = count_takes; again = count_again }
-
 -- the tags behind a count are a set
-pub set_read : (u after : Unread) (count : ℕ) (x : List Tag × Unread) → count_at u ≡ Ok (count, after) → tags_after count None after ≡ Ok x → is_tag_set x.0 ≡ true
+pub set_read : (u after : Unread) (count : ℕ) (x : List Tag × Unread) → byte_at 10 u ≡ Ok (count, after) → tags_after count None after ≡ Ok x → is_tag_set x.0 ≡ true
 set_read u after count x read e =
-    let few = (counted u.whole u.bytes (count, after) read).few in
+    let few = (byte_is 10 u (count, after) read).few in
     let follow = tags_follow count None after x e in
     set_from_all x.0 (omega (arith, follow.0, few)) follow.1
 
 tags_takes : (u : Unread) (x : List Tag × Unread) → IsBytes u.bytes → tags_at u ≡ Ok x → Takes u.bytes (tags_bytes x.0) x.1.bytes × (is_tag_set x.0 ≡ true)
 unfolding tags_at
 tags_takes u x fits e =
-    let read = bind_ok (count_at u) (λ count. tags_after count.0 None count.1) x e in
-    let count = count_takes u read.0 fits read.1 in
+    let read = bind_ok (byte_at 10 u) (λ count. tags_after count.0 None count.1) x e in
+    let count = (byte_law 10).takes u read.0 fits read.1 in
     let taken = tags_take read.0.0 None read.0.1 x count.0.rest_fits read.2 in
     let long : length x.0 ≡ read.0.0 = (tags_follow read.0.0 None read.0.1 x read.2).0 in
     let both = Takes-then u.bytes (read.0.0 ∷ []) read.0.1.bytes (flat_map tag_bytes x.0) x.1.bytes count.0 taken in
@@ -192,7 +149,7 @@ tags_read_again : (whole : ℕ) (tags : List Tag) (rest : List ℕ) → is_tag_s
 unfolding tags_at
 tags_read_again whole tags rest ruled =
     let set = set_is tags ruled in
-    read_again count_law (λ count. tags_after count.0 None count.1) whole (length tags) (flat_map tag_bytes tags ++ rest) set.few
+    read_again (byte_law 10) (λ count. tags_after count.0 None count.1) whole (length tags) (flat_map tag_bytes tags ++ rest) set.few
     ∙ tags_again None whole tags rest set.follow
 
 pub tags_law : Reads tags_at tags_bytes (λ tags. is_tag_set tags ≡ true)

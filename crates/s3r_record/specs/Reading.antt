@@ -39,6 +39,16 @@ Gives view (Err fault) read = Fails fault read
 abbrev pub number_at : Width → Unread → Result (ℕ × Unread) ℕ
 number_at w left = if nat_lt (length left.bytes) (byte_len w) then Err (place left) else Ok (from_be_bytes w (take (byte_len w) left.bytes), past (byte_len w) left)
 
+-- the first byte, if it is at most that
+abbrev pub byte_of : ℕ → List ℕ → ℕ → Result (ℕ × List ℕ) ℕ
+byte_of most [] at = Err at
+byte_of most (byte ∷ bytes) at = if nat_le byte most then Ok (byte, bytes) else Err at
+
+unfoldable pub byte_at : ℕ → Unread → Result (ℕ × Unread) ℕ
+byte_at most left = do
+  byte ← byte_of most left.bytes (place left)
+  Ok (byte.0, record { whole = left.whole; bytes = byte.1 })
+
 -- the flag's byte, if it is 0 or 1
 abbrev pub flag_of : List ℕ → ℕ → Result (Bool × List ℕ) ℕ
 flag_of [] at = Err at

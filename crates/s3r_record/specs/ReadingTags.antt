@@ -1,9 +1,9 @@
 -- Reading tags: each text is a field of its own, and keys rise.
-use Rattle.std.specs.Prelude.{ℕ, zero, suc, Bool, true, ◌&&◌, List, [], ◌∷◌, Option, Some, None, Result, Ok, Err, nat_le, if◌then◌else◌}
+use Rattle.std.specs.Prelude.{ℕ, zero, suc, Bool, true, ◌&&◌, List, [], ◌∷◌, Option, Some, None, Result, Ok}
 use Rattle.std.specs.Int.{w16}
 use Rattle.s3r_names.specs.Tags.{is_tag_key, is_tag_value, is_key_below}
 use Rattle.s3r_names.specs.declared.tags.Tag.{Tag}
-use Rattle.s3r_record.specs.Reading.{◌>>=◌, Unread, place, tested_at}
+use Rattle.s3r_record.specs.Reading.{◌>>=◌, Unread, byte_at, tested_at}
 
 -- a key that may stand after that tag
 abbrev pub rises_above : Option Tag → List ℕ → Bool
@@ -27,17 +27,8 @@ tags_after (suc count) before left = do
   others ← tags_after count (Some tag.0) tag.1
   Ok (tag.0 ∷ others.0, others.1)
 
--- the count's byte, if it is at most ten
-abbrev pub count_of : List ℕ → ℕ → Result (ℕ × List ℕ) ℕ
-count_of [] at = Err at
-count_of (count ∷ bytes) at = if nat_le count 10 then Ok (count, bytes) else Err at
-
-unfoldable pub count_at : Unread → Result (ℕ × Unread) ℕ
-count_at left = do
-  count ← count_of left.bytes (place left)
-  Ok (count.0, record { whole = left.whole; bytes = count.1 })
-
+-- a count of at most ten, and so many
 unfoldable pub tags_at : Unread → Result (List Tag × Unread) ℕ
 tags_at left = do
-  count ← count_at left
+  count ← byte_at 10 left
   tags_after count.0 None count.1

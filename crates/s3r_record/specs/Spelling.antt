@@ -5,24 +5,43 @@ use Rattle.s3r_names.specs.Bucket.{is_bucket_name}
 use Rattle.s3r_names.specs.Key.{is_key}
 use Rattle.s3r_names.specs.Class.{is_class_name}
 use Rattle.s3r_names.specs.Tags.{is_tag_set}
+use Rattle.s3r_names.specs.Version.{IsVersionId}
 use Rattle.s3r_record.specs.declared.command.Command.{Command}
 use Rattle.s3r_record.specs.declared.command.Command.TheVariants as command
-use Rattle.s3r_record.specs.Fields.{text, body, flag, tags_bytes}
+use Rattle.s3r_record.specs.Fields.{text, body, flag, tags_bytes, id_bytes}
 
 -- a byte that says which command it is, and its fields in order
 abbrev pub spelling : Command → List ℕ
 spelling (command.CreateBucket name locked) = 1 ∷ (text name ++ flag locked)
+spelling (command.DeleteBucket name) = 2 ∷ text name
+spelling (command.SetVersioning name enabled) = 3 ∷ (text name ++ flag enabled)
 spelling (command.Put bucket key tags hold class bytes) = 6 ∷ (text bucket ++ text key ++ tags_bytes tags ++ flag hold ++ text class ++ body bytes)
+spelling (command.Marker bucket key) = 7 ∷ (text bucket ++ text key)
+spelling (command.Remove bucket key id) = 8 ∷ (text bucket ++ text key ++ id_bytes id)
+spelling (command.SetTags bucket key id tags) = 9 ∷ (text bucket ++ text key ++ id_bytes id ++ tags_bytes tags)
+spelling (command.SetHold bucket key id hold) = 10 ∷ (text bucket ++ text key ++ id_bytes id ++ flag hold)
 
 -- each field meets its type's rule
 abbrev pub IsCommand : Command → Type 0
 IsCommand (command.CreateBucket name locked) = IsTrue (is_bucket_name name)
+IsCommand (command.DeleteBucket name) = IsTrue (is_bucket_name name)
+IsCommand (command.SetVersioning name enabled) = IsTrue (is_bucket_name name)
 IsCommand (command.Put bucket key tags hold class bytes) = IsTrue (is_bucket_name bucket) × IsTrue (is_key key) × IsTrue (is_tag_set tags) × IsTrue (is_class_name class) × (length bytes ≤ 4194304)
+IsCommand (command.Marker bucket key) = IsTrue (is_bucket_name bucket) × IsTrue (is_key key)
+IsCommand (command.Remove bucket key id) = IsTrue (is_bucket_name bucket) × IsTrue (is_key key) × IsVersionId id
+IsCommand (command.SetTags bucket key id tags) = IsTrue (is_bucket_name bucket) × IsTrue (is_key key) × IsVersionId id × IsTrue (is_tag_set tags)
+IsCommand (command.SetHold bucket key id hold) = IsTrue (is_bucket_name bucket) × IsTrue (is_key key) × IsVersionId id
 
--- its body is no longer than the command allows, which no type says
+-- what the types of its fields leave open: the length of a body, and the rule of an id
 abbrev pub HasShortBody : Command → Type 0
 HasShortBody (command.CreateBucket name locked) = Unit {0}
+HasShortBody (command.DeleteBucket name) = Unit {0}
+HasShortBody (command.SetVersioning name enabled) = Unit {0}
 HasShortBody (command.Put bucket key tags hold class bytes) = length bytes ≤ 4194304
+HasShortBody (command.Marker bucket key) = Unit {0}
+HasShortBody (command.Remove bucket key id) = IsVersionId id
+HasShortBody (command.SetTags bucket key id tags) = IsVersionId id
+HasShortBody (command.SetHold bucket key id hold) = IsVersionId id
 
 -- a spelling behind its length, with a closed gate after it
 abbrev pub frame : List ℕ → List ℕ

@@ -1,4 +1,4 @@
-use s3r_names::{BucketName, Bytes, ClassName, Key, TagSet};
+use s3r_names::{BucketName, Bytes, ClassName, Key, TagSet, VersionId};
 
 /// What one record of a region's volume says.
 #[derive(Debug, Drop)]
@@ -7,6 +7,14 @@ pub enum Command {
         name: BucketName,
         locked: bool,
     },
+    DeleteBucket {
+        name: BucketName,
+    },
+    /// Enabled or suspended.
+    SetVersioning {
+        name: BucketName,
+        enabled: bool,
+    },
     Put {
         bucket: BucketName,
         key: Key,
@@ -14,5 +22,30 @@ pub enum Command {
         hold: bool,
         class: ClassName,
         body: Bytes,
+    },
+    /// A delete marker is written.
+    Marker {
+        bucket: BucketName,
+        key: Key,
+    },
+    /// A version is taken away.
+    Remove {
+        bucket: BucketName,
+        key: Key,
+        id: VersionId,
+    },
+    /// A version's tags are these from now on.
+    SetTags {
+        bucket: BucketName,
+        key: Key,
+        id: VersionId,
+        tags: TagSet,
+    },
+    /// A version's legal hold is on or off from now on.
+    SetHold {
+        bucket: BucketName,
+        key: Key,
+        id: VersionId,
+        hold: bool,
     },
 }

@@ -3,46 +3,16 @@
 ghost use Rattle.std.specs.Prelude.{◌≡◌, ◌≤◌, length, IfOk, Ok};
 ghost use Rattle.s3r_record.specs.Spelling.{spelling, IsCommand};
 ghost use Rattle.s3r_record.specs.Reading.{Gives, unread};
-ghost use Rattle.s3r_record.specs.Commands.{create_bucket_at, put_at, fields_at, command_at};
+ghost use Rattle.s3r_record.specs.Commands.{fields_at, command_at};
 ghost use Rattle.s3r_record.specs.declared.command.Command.{Command};
 
+use crate::bucket_decoding::{create_bucket, delete_bucket, set_versioning};
 use crate::command::Command;
 use crate::fault::RecordFault;
-use crate::fields::{body_of, bucket_name_of, class_of, flag_of, key_of};
 use crate::kinds;
 use crate::reading::Rest;
-use crate::tag_fields::tags_of;
+use crate::version_decoding::{marker, put, remove, set_hold, set_tags};
 use std::alloc::Global;
-
-#[tactic(auto, unfolding(crate::specs::Commands::create_bucket_at))]
-fn create_bucket(alloc: Global, fields: Rest<'_>) -> Result<(Command, Rest<'_>), RecordFault>
-    ensures { Gives (λ x. (x.0, unread x.1)) result (create_bucket_at (unread fields.entry)) }
-{
-    let (name, rest) = bucket_name_of(alloc, fields)?;
-    let (locked, rest) = flag_of(rest)?;
-    Ok((Command::CreateBucket { name, locked }, rest))
-}
-
-#[tactic(auto, unfolding(crate::specs::Commands::put_at))]
-fn put(alloc: Global, fields: Rest<'_>) -> Result<(Command, Rest<'_>), RecordFault>
-    ensures { Gives (λ x. (x.0, unread x.1)) result (put_at (unread fields.entry)) }
-{
-    let (bucket, rest) = bucket_name_of(alloc, fields)?;
-    let (key, rest) = key_of(alloc, rest)?;
-    let (tags, rest) = tags_of(alloc, rest)?;
-    let (hold, rest) = flag_of(rest)?;
-    let (class, rest) = class_of(alloc, rest)?;
-    let (body, rest) = body_of(alloc, rest)?;
-    let command = Command::Put {
-        bucket,
-        key,
-        tags,
-        hold,
-        class,
-        body,
-    };
-    Ok((command, rest))
-}
 
 #[tactic(auto, unfolding(crate::specs::Commands::fields_at))]
 fn fields_of(alloc: Global, kind: u8, fields: Rest<'_>) -> Result<(Command, Rest<'_>), RecordFault>
@@ -50,7 +20,13 @@ fn fields_of(alloc: Global, kind: u8, fields: Rest<'_>) -> Result<(Command, Rest
 {
     match kind {
         kinds::CREATE_BUCKET => create_bucket(alloc, fields),
+        kinds::DELETE_BUCKET => delete_bucket(alloc, fields),
+        kinds::SET_VERSIONING => set_versioning(alloc, fields),
         kinds::PUT => put(alloc, fields),
+        kinds::MARKER => marker(alloc, fields),
+        kinds::REMOVE => remove(alloc, fields),
+        kinds::SET_TAGS => set_tags(alloc, fields),
+        kinds::SET_HOLD => set_hold(alloc, fields),
         _ => Err(RecordFault::NotACommand(0)),
     }
 }

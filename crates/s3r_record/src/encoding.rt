@@ -4,43 +4,12 @@ ghost use Rattle.std.specs.Prelude.{◌≡◌, ◌≤◌, ◌++◌, length, OnOk
 ghost use Rattle.s3r_record.specs.Spelling.{spelling, IsCommand, HasShortBody, frame};
 ghost use Rattle.s3r_record.specs.declared.command.Command.{Command};
 
+use crate::bucket_encoding::{write_create_bucket, write_delete_bucket, write_set_versioning};
 use crate::command::Command;
-use crate::kinds;
-use crate::writing::{write_body, write_flag, write_tags, write_text};
-use s3r_names::{BucketName, Bytes, ClassName, Key, TagSet};
+use crate::version_encoding::{
+    write_marker, write_put, write_remove, write_set_hold, write_set_tags,
+};
 use std::alloc::{AllocError, Global};
-
-fn write_create_bucket(out: &mut Vec<u8>, name: &BucketName, locked: bool) -> Result<(), AllocError>
-    ensures spelled { OnOk result (out.new.items ≡ out.old.items ++ spelling (Command.CreateBucket name.now locked)) }
-    ensures fits { OnOk result (IsCommand (Command.CreateBucket name.now locked)) }
-{
-    out.push(kinds::CREATE_BUCKET)?;
-    write_text(out, name.as_bytes())?;
-    write_flag(out, locked)
-}
-
-fn write_put(
-    out: &mut Vec<u8>,
-    bucket: &BucketName,
-    key: &Key,
-    tags: &TagSet,
-    hold: bool,
-    class: &ClassName,
-    body: &Bytes,
-) -> Result<(), AllocError>
-    requires { length body.now ≤ 4194304 }
-    ensures spelled { OnOk result
-        (out.new.items ≡ out.old.items ++ spelling (Command.Put bucket.now key.now tags.now hold class.now body.now)) }
-    ensures fits { OnOk result (IsCommand (Command.Put bucket.now key.now tags.now hold class.now body.now)) }
-{
-    out.push(kinds::PUT)?;
-    write_text(out, bucket.as_bytes())?;
-    write_text(out, key.as_bytes())?;
-    write_tags(out, tags)?;
-    write_flag(out, hold)?;
-    write_text(out, class.as_bytes())?;
-    write_body(out, body.as_slice())
-}
 
 fn write_command(out: &mut Vec<u8>, command: &Command) -> Result<(), AllocError>
     requires { HasShortBody command.now }
@@ -49,6 +18,8 @@ fn write_command(out: &mut Vec<u8>, command: &Command) -> Result<(), AllocError>
 {
     match command {
         Command::CreateBucket { name, locked } => write_create_bucket(out, name, *locked),
+        Command::DeleteBucket { name } => write_delete_bucket(out, name),
+        Command::SetVersioning { name, enabled } => write_set_versioning(out, name, *enabled),
         Command::Put {
             bucket,
             key,
@@ -57,6 +28,20 @@ fn write_command(out: &mut Vec<u8>, command: &Command) -> Result<(), AllocError>
             class,
             body,
         } => write_put(out, bucket, key, tags, *hold, class, body),
+        Command::Marker { bucket, key } => write_marker(out, bucket, key),
+        Command::Remove { bucket, key, id } => write_remove(out, bucket, key, *id),
+        Command::SetTags {
+            bucket,
+            key,
+            id,
+            tags,
+        } => write_set_tags(out, bucket, key, *id, tags),
+        Command::SetHold {
+            bucket,
+            key,
+            id,
+            hold,
+        } => write_set_hold(out, bucket, key, *id, *hold),
     }
 }
 

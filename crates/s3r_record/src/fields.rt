@@ -1,10 +1,10 @@
 //! Fields, read from the front of what is left.
 
-ghost use Rattle.std.specs.Int.{w16, w32};
+ghost use Rattle.std.specs.Int.{w16, w32, w64};
 ghost use Rattle.s3r_names.specs.Bucket.{is_bucket_name};
 ghost use Rattle.s3r_names.specs.Key.{is_key};
 ghost use Rattle.s3r_names.specs.Class.{is_class_name};
-ghost use Rattle.s3r_record.specs.Reading.{Gives, unread, place, number_at, flag_at, bytes_at, sized_at, tested_at, is_body};
+ghost use Rattle.s3r_record.specs.Reading.{Gives, unread, place, number_at, byte_at, flag_at, bytes_at, sized_at, tested_at, is_body};
 
 use crate::fault::RecordFault;
 use crate::reading::Rest;
@@ -34,6 +34,30 @@ fn u32_of(left: Rest<'_>) -> Result<(u32, Rest<'_>), RecordFault>
     let (front, rest) = left.bytes.split_at(4);
     let number = u32::from_be_bytes([front[0], front[1], front[2], front[3]]);
     Ok((number, left.with(rest)))
+}
+
+pub(crate) fn u64_of(left: Rest<'_>) -> Result<(u64, Rest<'_>), RecordFault>
+    ensures { Gives (λ x. (x.0, unread x.1)) result (number_at w64 (unread left.entry)) }
+{
+    if left.bytes.len() < 8 {
+        return Err(left.fault());
+    }
+    let (front, rest) = left.bytes.split_at(8);
+    let number = u64::from_be_bytes([
+        front[0], front[1], front[2], front[3], front[4], front[5], front[6], front[7],
+    ]);
+    Ok((number, left.with(rest)))
+}
+
+/// A byte that is at most `most`.
+#[tactic(auto, unfolding(crate::specs::Reading::byte_at))]
+pub(crate) fn byte_of(most: u8, left: Rest<'_>) -> Result<(u8, Rest<'_>), RecordFault>
+    ensures { Gives (λ x. (x.0, unread x.1)) result (byte_at most (unread left.entry)) }
+{
+    match left.bytes {
+        [byte, rest @ ..] if *byte <= most => Ok((*byte, left.with(rest))),
+        [] | [_, ..] => Err(left.fault()),
+    }
 }
 
 #[tactic(auto, unfolding(crate::specs::Reading::flag_at))]

@@ -2,4 +2,16 @@
 
 pub(crate) const CREATE_BUCKET: u8 = 1;
 
+pub(crate) const DELETE_BUCKET: u8 = 2;
+
+pub(crate) const SET_VERSIONING: u8 = 3;
+
 pub(crate) const PUT: u8 = 6;
+
+pub(crate) const MARKER: u8 = 7;
+
+pub(crate) const REMOVE: u8 = 8;
+
+pub(crate) const SET_TAGS: u8 = 9;
+
+pub(crate) const SET_HOLD: u8 = 10;

@@ -4,13 +4,16 @@ ghost use Rattle.std.specs.Prelude.{◌≡◌, None, option_copied};
 ghost use Rattle.std.specs.Int.{w16};
 ghost use Rattle.s3r_names.specs.Tags.{is_tag_value};
 ghost use Rattle.s3r_record.specs.Reading.{Gives, unread, tested_at};
-ghost use Rattle.s3r_record.specs.ReadingTags.{rises_above, key_follows, tag_at, tags_after, count_at, tags_at};
+ghost use Rattle.s3r_record.specs.ReadingTags.{rises_above, key_follows, tag_at, tags_after, tags_at};
 
 use crate::fault::RecordFault;
-use crate::fields::text_of;
+use crate::fields::{byte_of, text_of};
 use crate::reading::Rest;
 use s3r_names::{NameFault, Tag, TagSet, Text, is_key_below};
 use std::alloc::Global;
+
+/// The most tags of a set.
+const TAG_LIMIT: u8 = 10;
 
 /// Whether the key may stand after that tag.
 fn rises_above(before: Option<&Tag>, key: &[u8]) -> bool
@@ -80,21 +83,11 @@ fn tags_after(alloc: Global, count: u8, left: Rest<'_>) -> Result<(Vec<Tag>, Res
     Ok((tags, rest))
 }
 
-#[tactic(auto, unfolding(crate::specs::ReadingTags::count_at))]
-fn count_of(left: Rest<'_>) -> Result<(u8, Rest<'_>), RecordFault>
-    ensures { Gives (λ x. (x.0, unread x.1)) result (count_at (unread left.entry)) }
-{
-    match left.bytes {
-        [count, rest @ ..] if *count <= 10 => Ok((*count, left.with(rest))),
-        [] | [_, ..] => Err(left.fault()),
-    }
-}
-
 #[tactic(auto, unfolding(crate::specs::ReadingTags::tags_at))]
 pub(crate) fn tags_of(alloc: Global, left: Rest<'_>) -> Result<(TagSet, Rest<'_>), RecordFault>
     ensures { Gives (λ x. (x.0, unread x.1)) result (tags_at (unread left.entry)) }
 {
-    let (count, rest) = count_of(left)?;
+    let (count, rest) = byte_of(TAG_LIMIT, left)?;
     let (tags, rest) = tags_after(alloc, count, rest)?;
     match TagSet::from_tags(tags) {
         Ok(tags) => Ok((tags, rest)),

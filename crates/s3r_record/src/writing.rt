@@ -3,9 +3,9 @@
 ghost use Rattle.std.specs.Prelude.{◌≡◌, ◌≤◌, ◌<◌, ◌^◌, ◌++◌, length, IsTrue, OnOk};
 ghost use Rattle.std.specs.List.{list_all, flat_map};
 ghost use Rattle.s3r_names.specs.Tags.{is_tag, is_tag_set};
-ghost use Rattle.s3r_record.specs.Fields.{text, body, flag, tag_bytes, tags_bytes};
+ghost use Rattle.s3r_record.specs.Fields.{text, body, flag, tag_bytes, tags_bytes, id_bytes};
 
-use s3r_names::{Tag, TagSet};
+use s3r_names::{Tag, TagSet, VersionId};
 use std::alloc::AllocError;
 
 pub(crate) fn write_flag(out: &mut Vec<u8>, value: bool) -> Result<(), AllocError>
@@ -56,4 +56,11 @@ pub(crate) fn write_tags(out: &mut Vec<u8>, tags: &TagSet) -> Result<(), AllocEr
     let tags = tags.as_slice();
     out.push(tags.len() as u8)?;
     write_each_tag(out, tags)
+}
+
+pub(crate) fn write_id(out: &mut Vec<u8>, id: VersionId) -> Result<(), AllocError>
+    ensures { OnOk result (out.new.items ≡ out.old.items ++ id_bytes id) }
+{
+    out.push(id.region)?;
+    out.extend_from_slice(&id.index.to_be_bytes())
 }

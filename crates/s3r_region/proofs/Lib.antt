@@ -2,4 +2,3 @@ pub mod Places
 pub mod Earlier
 pub mod Told
 pub mod Steps
-pub mod Known

@@ -1,9 +1,9 @@
--- A change at the first place that passes a test.
-use Rattle.std.proofs.Common.{◌≡◌, ℕ, zero, suc, ◌+◌, Bool, true, false, cond, List, [], ◌∷◌, Some, None, length, position, slice_set, slice_index_or, refl, sym, ap, ◌∙◌, subst, arith}
+-- A change or a removal at the first place that passes a test.
+use Rattle.std.proofs.Common.{◌≡◌, ℕ, zero, suc, ◌+◌, Bool, true, false, cond, List, [], ◌∷◌, Some, None, is_some, find, length, remove, position, slice_set, slice_index_or, refl, sym, ap, ◌∙◌, subst, arith, add-one, true≢false}
 use Rattle.std.specs.List.{position_from, list_all}
 use Rattle.std.proofs.lemmas.Bool.{and_parts, and_from}
 use Rattle.std.proofs.lemmas.Iterator.Adapters.{position_from-zero}
-use Rattle.s3r_region.specs.Changes.{set_first}
+use Rattle.s3r_region.specs.Changes.{set_first, without_first}
 
 -- the test passes at m, and at none before
 abbrev pub IsFirstAt : {X : Type 0} → (X → Bool) → ℕ → List X → Type 0
@@ -71,3 +71,44 @@ all-set_first p q f (x ∷ xs) keeps all = go (p x) (all-set_first p q f xs keep
     go : (t : Bool) → list_all q (set_first p f xs) ≡ true → list_all q (cond t (f x ∷ xs) (x ∷ set_first p f xs)) ≡ true
     go true ih = and_from _ _ (keeps x parts.0) parts.1
     go false ih = and_from _ _ parts.0 ih
+
+-- ---- the first is taken out
+
+pub length-without_first : {X : Type 0} (p : X → Bool) (xs : List X) → is_some (find p xs) ≡ true → length xs ≡ length (without_first p xs) + 1
+length-without_first p [] found = absurd (true≢false (sym found))
+length-without_first p (x ∷ xs) found = go (p x) found (length-without_first p xs)
+  where
+    go : (t : Bool) → is_some (cond t (Some x) (find p xs)) ≡ true → (is_some (find p xs) ≡ true → length xs ≡ length (without_first p xs) + 1)
+        → suc (length xs) ≡ length (cond t xs (x ∷ without_first p xs)) + 1
+    go true h ih = sym (add-one (length xs))
+    go false h ih = ap suc (ih h) ∙ sym (add-one (length (without_first p xs) + 1)) ∙ ap (λ n. n + 1) (add-one (length (without_first p xs)))
+
+pub all-without_first : {X : Type 0} (p q : X → Bool) (xs : List X) → list_all q xs ≡ true → list_all q (without_first p xs) ≡ true
+all-without_first p q [] all = refl
+all-without_first p q (x ∷ xs) all = go (p x) (all-without_first p q xs parts.1)
+  where
+    parts : (q x ≡ true) × (list_all q xs ≡ true)
+    parts = and_parts (q x) (list_all q xs) all
+
+    go : (t : Bool) → list_all q (without_first p xs) ≡ true → list_all q (cond t xs (x ∷ without_first p xs)) ≡ true
+    go true ih = parts.1
+    go false ih = and_from _ _ parts.0 ih
+
+remove-first : {X : Type 0} (p : X → Bool) (xs : List X) (i : ℕ) → IsFirstAt p i xs → remove xs i ≡ without_first p xs
+remove-first p [] i h = absurd h
+remove-first p (x ∷ xs) zero h = sym (ap (λ t. cond t xs (x ∷ without_first p xs)) h)
+remove-first p (x ∷ xs) (suc i) h = ap (λ ys. x ∷ ys) (remove-first p xs i h.1) ∙ sym (ap (λ t. cond t xs (x ∷ without_first p xs)) h.0)
+
+pub remove_at : {X : Type 0} (p : X → Bool) (xs : List X) (i : ℕ) → position p xs ≡ Some i → remove xs i ≡ without_first p xs
+remove_at p xs i h = remove-first p xs i (first-position p xs i h)
+
+kept_from : {X : Type 0} (p : X → Bool) (k : ℕ) (xs : List X) → position_from p k xs ≡ None → without_first p xs ≡ xs
+kept_from p k [] h = refl
+kept_from p k (x ∷ xs) h = go (p x) h (kept_from p (k + 1) xs)
+  where
+    go : (t : Bool) → cond t (Some k) (position_from p (k + 1) xs) ≡ None → (position_from p (k + 1) xs ≡ None → without_first p xs ≡ xs) → cond t xs (x ∷ without_first p xs) ≡ x ∷ xs
+    go true h ih = absurd cc
+    go false h ih = ap (λ ys. x ∷ ys) (ih h)
+
+pub without_first-none : {X : Type 0} (p : X → Bool) (xs : List X) → position p xs ≡ None → without_first p xs ≡ xs
+without_first-none p xs h = kept_from p 0 xs (sym (position_from-zero p xs) ∙ h)

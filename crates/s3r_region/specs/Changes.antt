@@ -1,25 +1,74 @@
 -- What one command changes.
-use Rattle.std.specs.Prelude.{◌+◌, min, Bool, List, [], ◌∷◌, if◌then◌else◌}
+use Rattle.std.specs.Prelude.{◌≡◌, ◌≤◌, ◌+◌, ℕ, min, Bool, true, List, [], ◌∷◌, None, is_some, if◌then◌else◌, IsTrue}
 use Rattle.s3r_names.specs.declared.stamp.Stamp.{Stamp}
-use Rattle.s3r_versions.specs.Contents as versions
+use Rattle.s3r_versions.specs.Lookup.{find_version}
+use Rattle.s3r_versions.specs.Contents.{with_row, without_version, on_version, with_tags, with_hold}
+use Rattle.s3r_versions.specs.Removed.{with_id}
 use Rattle.s3r_history.specs.Words.{Name}
 use Rattle.s3r_history.specs.Past.{Entry}
 use Rattle.s3r_region.specs.declared.bucket.Bucket.{Bucket}
-use Rattle.s3r_region.specs.Contents.{Contents}
+use Rattle.s3r_region.specs.declared.change.Change.{Change}
+use Rattle.s3r_region.specs.declared.change.Change.TheVariants as change
+use Rattle.s3r_region.specs.Contents.{Contents, is_named, are_earlier}
 
 -- the first element that passes the test is changed
 abbrev pub set_first : {X : Type 0} → (X → Bool) → (X → X) → List X → List X
 set_first p f [] = []
 set_first p f (x ∷ xs) = if p x then f x ∷ xs else x ∷ set_first p f xs
 
+-- the first element that passes the test is left out
+abbrev pub without_first : {X : Type 0} → (X → Bool) → List X → List X
+without_first p [] = []
+without_first p (x ∷ xs) = if p x then xs else x ∷ without_first p xs
+
 -- a bucket with no versions
 abbrev pub new_bucket : Name → Bool → Bucket
-new_bucket name locked = record { name = name; locked = locked; rows = record { rows = []; removed = [] } }
+new_bucket name locked = record { name = name; locked = locked; enabled = true; rows = record { rows = []; removed = [] } }
 
--- the bucket with one row more
-abbrev pub with_row : Entry → Bucket → Bucket
-with_row row b = record b { rows = record b.rows { rows = versions.with_row row b.rows.rows } }
+abbrev pub with_rows : List Entry → Bucket → Bucket
+with_rows rows b = record b { rows = record b.rows { rows = rows } }
+
+-- the bucket after the change
+abbrev pub changed : Change → Bucket → Bucket
+changed (change.Add row) b = with_rows (with_row row b.rows.rows) b
+changed (change.Remove key id) b = record b {
+  rows = record {
+    rows = without_version key id b.rows.rows;
+    removed = if is_some (find_version key id b.rows.rows) then with_id id b.rows.removed else b.rows.removed;
+  };
+}
+changed (change.Tags key id tags stamp) b = with_rows (on_version key id (with_tags stamp tags) b.rows.rows) b
+changed (change.Hold key id hold stamp) b = with_rows (on_version key id (with_hold stamp hold) b.rows.rows) b
+changed (change.Versioning enabled) b = record b { enabled = enabled }
+
+-- a row that is added is of no version that is there
+abbrev pub IsFree : Change → Bucket → Type 0
+IsFree (change.Add row) b = find_version row.key row.id b.rows.rows ≡ None
+IsFree (change.Remove key id) b = Unit {0}
+IsFree (change.Tags key id tags stamp) b = Unit {0}
+IsFree (change.Hold key id hold stamp) b = Unit {0}
+IsFree (change.Versioning enabled) b = Unit {0}
+
+-- a row that is added is of a later command than those that are there
+abbrev pub IsLater : Change → List Bucket → Type 0
+IsLater (change.Add row) buckets = IsTrue (are_earlier row.id.index buckets)
+IsLater (change.Remove key id) buckets = Unit {0}
+IsLater (change.Tags key id tags stamp) buckets = Unit {0}
+IsLater (change.Hold key id hold stamp) buckets = Unit {0}
+IsLater (change.Versioning enabled) buckets = Unit {0}
+
+-- the state after one command more, which makes the change
+abbrev pub with_change : Contents → Name → Change → Contents
+with_change s name c = record s { commands = s.commands + 1; buckets = set_first (is_named name) (changed c) s.buckets }
 
 -- the stamp of the command that comes next, where it writes
 abbrev pub next_stamp : Contents → Stamp
 next_stamp s = record { n = min (s.clock + 1) 18446744073709551615; region = s.region; index = s.commands + 1 }
+
+-- a row that is added is of the command of this index
+abbrev pub IsAt : ℕ → Change → Type 0
+IsAt index (change.Add row) = (row.id.index ≡ index) × (row.id.region ≤ 7)
+IsAt index (change.Remove key id) = Unit {0}
+IsAt index (change.Tags key id tags stamp) = Unit {0}
+IsAt index (change.Hold key id hold stamp) = Unit {0}
+IsAt index (change.Versioning enabled) = Unit {0}

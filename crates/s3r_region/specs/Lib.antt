@@ -2,4 +2,3 @@ pub mod Contents
 pub mod After
 pub mod Changes
 pub mod Denies
-pub mod Laws

@@ -1,19 +1,22 @@
 //! The buckets of a region.
 
-ghost use Rattle.std.specs.Prelude.{◌≡◌, None, OnOk, OnErr, IsTrue, option_copied, find, position};
-ghost use Rattle.s3r_versions.specs.Lookup.{find_version};
-ghost use Rattle.s3r_region.specs.Contents.{is_named, are_earlier};
-ghost use Rattle.s3r_region.specs.Changes.{set_first, with_row, new_bucket};
+ghost use Rattle.std.specs.Prelude.{◌≡◌, OnOk, OnErr, option_copied, find, position};
+ghost use Rattle.s3r_region.specs.Contents.{is_named};
+ghost use Rattle.s3r_region.specs.Changes.{set_first, without_first, changed, new_bucket, IsLater};
 
+use crate::change::Change;
 use s3r_names::{BucketName, Bytes};
-use s3r_versions::{Row, Rows};
+use s3r_versions::Rows;
 use std::alloc::{AllocError, Global};
 
 /// A bucket of a region.
 #[derive(Debug, Drop)]
 pub struct Bucket {
     pub name: BucketName,
+    /// Whether it has Object Lock.
     pub locked: bool,
+    /// Whether its versioning is Enabled, and not Suspended.
+    pub enabled: bool,
     pub rows: Rows<Bytes>,
 }
 
@@ -24,16 +27,9 @@ impl Bucket {
         Bucket {
             name,
             locked,
+            enabled: true,
             rows: Rows::new(alloc),
         }
-    }
-
-    fn add(&mut self, row: Row<Bytes>) -> Result<(), AllocError>
-        requires { find_version row.key row.id self.old.rows.rows ≡ None }
-        ensures ok { OnOk result (self.new ≡ with_row row self.old) }
-        ensures err { OnErr result (self.new ≡ self.old) }
-    {
-        self.rows.add(row)
     }
 }
 
@@ -50,19 +46,27 @@ fn place_of(buckets: &[Bucket], name: &BucketName) -> Option<usize>
     buckets.iter().position(|bucket| bucket.name == *name)
 }
 
-/// Adds the row to the bucket of this name.
-pub(crate) fn add_row(
+/// Makes the change in the bucket of this name. Without memory nothing changes.
+pub(crate) fn change_bucket(
     buckets: &mut Vec<Bucket>,
     name: &BucketName,
-    row: Row<Bytes>,
+    change: Change,
 ) -> Result<(), AllocError>
-    requires { IsTrue (are_earlier row.id.index buckets.old.items) }
-    ensures ok { OnOk result
-        (buckets.new.items ≡ set_first (is_named name.now) (with_row row) buckets.old.items) }
+    requires { IsLater change buckets.old.items }
+    ensures ok { OnOk result (buckets.new.items ≡ set_first (is_named name.now) (changed change) buckets.old.items) }
     ensures err { OnErr result (buckets.new.items ≡ buckets.old.items) }
 {
     match place_of(buckets, name) {
-        Some(place) => buckets[place].add(row),
+        Some(place) => buckets[place].change(change),
         None => Ok(()),
+    }
+}
+
+/// Takes the bucket of this name out.
+pub(crate) fn remove_bucket(buckets: &mut Vec<Bucket>, name: &BucketName)
+    ensures { buckets.new.items ≡ without_first (is_named name.now) buckets.old.items }
+{
+    if let Some(place) = place_of(buckets, name) {
+        let _bucket = buckets.remove(place);
     }
 }

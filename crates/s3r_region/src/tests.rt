@@ -1,8 +1,9 @@
 ghost use Rattle.std.specs.Prelude.{IfOk};
+ghost use Rattle.s3r_names.specs.Version.{IsVersionId};
 ghost use Rattle.s3r_record.specs.Spelling.{HasShortBody};
 
 use super::*;
-use s3r_names::{BucketName, Bytes, ClassName, Key, NameFault, TagSet};
+use s3r_names::{BucketName, Bytes, ClassName, Key, NameFault, TagSet, VersionId};
 use s3r_record::Command;
 use std::alloc::Global;
 use std::process::Abort;
@@ -90,6 +91,98 @@ fn a_hundred_buckets(rt: HostRuntime) -> Result<(), Fail> {
         let answer = next(&rt, rt.alloc(), &mut state, create(name, false))?;
         let refusal = (index == 100).then_some(Deny::Refused(Refusal::TooManyBuckets));
         assert_eq!(rt; answer, refusal);
+    }
+    Ok(())
+}
+
+/// What is done to the bucket `abc` and its key `k`; a version is named by its index.
+#[derive(Clone, Copy, Debug)]
+enum Do {
+    Create,
+    Delete,
+    Switch(bool),
+    Put(bool),
+    Mark,
+    Remove(u64),
+    Tag(u64),
+    Hold(u64, bool),
+}
+
+fn id(index: u64) -> VersionId
+    ensures { IsVersionId result }
+{
+    VersionId {
+        region: 3,
+        index: index.max(1),
+    }
+}
+
+fn command_of(alloc: Global, what: Do) -> Result<Command, NameFault>
+    ensures { IfOk result HasShortBody }
+{
+    let bucket = BucketName::read(alloc, b"abc")?;
+    let key = Key::read(alloc, b"k")?;
+    match what {
+        Do::Create => Ok(Command::CreateBucket {
+            name: bucket,
+            locked: true,
+        }),
+        Do::Delete => Ok(Command::DeleteBucket { name: bucket }),
+        Do::Switch(enabled) => Ok(Command::SetVersioning {
+            name: bucket,
+            enabled,
+        }),
+        Do::Put(hold) => put(alloc, bucket, hold),
+        Do::Mark => Ok(Command::Marker { bucket, key }),
+        Do::Remove(index) => Ok(Command::Remove {
+            bucket,
+            key,
+            id: id(index),
+        }),
+        Do::Tag(index) => Ok(Command::SetTags {
+            bucket,
+            key,
+            id: id(index),
+            tags: TagSet::none(alloc),
+        }),
+        Do::Hold(index, hold) => Ok(Command::SetHold {
+            bucket,
+            key,
+            id: id(index),
+            hold,
+        }),
+    }
+}
+
+#[test]
+fn versions_of_a_locked_bucket(rt: HostRuntime) -> Result<(), Fail> {
+    let rows = [
+        (Do::Delete, Some(Refusal::NoSuchBucket)),
+        (Do::Mark, Some(Refusal::NoSuchBucket)),
+        (Do::Create, None),
+        (Do::Switch(false), Some(Refusal::InvalidBucketState)),
+        (Do::Switch(true), None),
+        (Do::Put(true), None),
+        (Do::Remove(3), Some(Refusal::AccessDenied)),
+        (Do::Remove(2), Some(Refusal::NoSuchVersion)),
+        (Do::Tag(3), None),
+        (Do::Mark, None),
+        (Do::Tag(5), Some(Refusal::MethodNotAllowed)),
+        (Do::Hold(5, true), Some(Refusal::MethodNotAllowed)),
+        (Do::Hold(4, true), Some(Refusal::NoSuchVersion)),
+        (Do::Hold(3, false), None),
+        (Do::Remove(3), None),
+        (Do::Delete, Some(Refusal::BucketNotEmpty)),
+        (Do::Remove(5), None),
+        (Do::Delete, None),
+        (Do::Put(false), Some(Refusal::NoSuchBucket)),
+        (Do::Create, None),
+    ];
+    let mut state = State::new(rt.alloc(), 3, 8);
+    for (what, refusal) in rows {
+        let command = command_of(rt.alloc(), what)?;
+        let answer = next(&rt, rt.alloc(), &mut state, command)?;
+        assert_eq!(rt; answer, refusal.map(Deny::Refused), "{what:?}");
     }
     Ok(())
 }

@@ -1,10 +1,11 @@
-//! The row of a new version.
+//! The rows of new versions and markers.
 
-ghost use Rattle.std.specs.Prelude.{◌≡◌, ◌≤◌, length};
-ghost use Rattle.s3r_history.specs.Deeds.{version};
+ghost use Rattle.std.specs.Prelude.{◌≡◌, ◌≤◌, length, IfOk};
+ghost use Rattle.s3r_history.specs.Deeds.{version, marker};
 
 use s3r_names::{Bytes, ClassName, Key, Stamp, TagSet, VersionId};
 use s3r_versions::Row;
+use std::alloc::{AllocError, Global};
 
 /// The version that is first written under the stamp.
 pub(crate) fn new_version(
@@ -36,4 +37,16 @@ pub(crate) fn new_version(
         hold_stamp: stamp,
         origin: None,
     }
+}
+
+/// The marker that is written under the stamp.
+pub(crate) fn new_marker(alloc: Global, stamp: Stamp, key: Key) -> Result<Row<Bytes>, AllocError>
+    ensures { IfOk result (λ row. row ≡ marker stamp key) }
+{
+    let class = ClassName::standard(alloc)?;
+    let tags = TagSet::none(alloc);
+    let body = Bytes::from_vec(Vec::new(alloc));
+    let mut row = new_version(stamp, key, tags, false, class, body);
+    row.marker = true;
+    Ok(row)
 }

@@ -58,7 +58,7 @@ pub end_is : (v : ℕ) (end : Option ℕ) (hs : List (List ℕ)) (w : Outside) �
 end_is v None hs w at = ap (λ (k : List (List ℕ)). length (header v 1 ++ records k)) at.0
 end_is v (Some end) hs w at = at.1.place
 
-module _ (v : ℕ) (end : Option ℕ) (h : History) (c : Command) (old new : Outside) (at : IsAtEnd v end (spelled h) old) (lawful : IsLawful h) (fits : IsCommand c) (accepted : refusal h c ≡ None) where
+module _ (v : ℕ) (end : Option ℕ) (h : History) (c : Command) (old new : Outside) (at : IsAtEnd v end (spelled h) old) (lawful : IsLawful v h) (fits : IsCommand c) (accepted : refusal v h c ≡ None) where
   on_either : (x y : Image) → AtEnd v end (spelled h) (x.volume v) → OnVolume v (MayWrite v end (spelling c)) x y → OnVolume v (IsEither v h c) x y
   on_either x y was on = on_weaker v (MayWrite v end (spelling c)) (IsEither v h c) x y
       (λ may. ⊎_elim (λ still. inl (record { stands = still; lawful = lawful })) (λ with. inr (record { stands = with; lawful = (fits, accepted, lawful) })) (either v end (spelled h) (spelling c) (x.volume v) (y.volume v) was may)) on
@@ -82,7 +82,7 @@ module _ (v : ℕ) (end : Option ℕ) (h : History) (c : Command) (old new : Out
   end_after did = (did.ready refl, with_record v end (spelled h) (spelling c) (old.as_read.volume v) (new.as_read.volume v) (at_end_of v end (spelled h) old at) (did.read refl).here)
 
 -- nothing was done to a volume that stands for the history
-pub commits_nothing : (v : ℕ) (end : Option ℕ) (h : History) (c : Command) (w : Outside) → IsAtEnd v end (spelled h) w → IsLawful h → Commits v h c false w w
+pub commits_nothing : (v : ℕ) (end : Option ℕ) (h : History) (c : Command) (w : Outside) → IsAtEnd v end (spelled h) w → IsLawful v h → Commits v h c false w w
 commits_nothing v end h c w at lawful = record {
   time = elapses_none w (Reached (OnVolume v (IsEither v h c)) w.images);
   images = λ x now. (x, now, record { here = inl (record { stands = stands_at v end (spelled h) (x.volume v) (image_at v end (spelled h) w at x now); lawful = lawful }); elsewhere = λ u ne. refl; output = refl });
@@ -102,7 +102,7 @@ length_is v end h c w bytes at is = omega (arith, end_is v end (spelled h) w at,
 
 -- a frame that wasn't written
 pub commit_failed : (v : ℕ) (h : History) (c : Command) (room : ℕ) (a b : Held) (old new : Outside) (e : AppendFault) (full : Type 0)
-    → refusal h c ≡ None
+    → refusal v h c ≡ None
     → (e ≡ append.VolumeFull v) ⊎ ((e ≡ append.Volume v) × full)
     → (e ≡ append.VolumeFull v → room < length_with v h c)
     → (e ≡ append.Volume v → length_with v h c ≤ room)

@@ -39,12 +39,12 @@ length_with v h c = length (header v 1 ++ records (spelled h)) + 1 + length (fra
 -- what is held after a commit, and what came of it
 abbrev pub HasCommitted : ℕ → History → Command → Result ℕ StoreFault → ℕ → Held → Held → Outside → Outside → Type 0
 HasCommitted v h c (Ok index) room a b old new =
-    (index ≡ length h + 1) × (refusal h c ≡ None) × (length_with v h c ≤ room) × Knows v b (c ∷ h) new × Commits v h c true old new
-HasCommitted v h c (Err (faults.Refused f)) room a b old new = refusal h c ≡ Some f
-HasCommitted v h c (Err (faults.Full u)) room a b old new = (refusal h c ≡ None) × (room < length_with v h c)
-HasCommitted v h c (Err (faults.Volume u)) room a b old new = (refusal h c ≡ None) × (length_with v h c ≤ room) × Commits v h c false old new
+    (index ≡ length h + 1) × (refusal v h c ≡ None) × (length_with v h c ≤ room) × Knows v b (c ∷ h) new × Commits v h c true old new
+HasCommitted v h c (Err (faults.Refused f)) room a b old new = refusal v h c ≡ Some f
+HasCommitted v h c (Err (faults.Full u)) room a b old new = (refusal v h c ≡ None) × (room < length_with v h c)
+HasCommitted v h c (Err (faults.Volume u)) room a b old new = (refusal v h c ≡ None) × (length_with v h c ≤ room) × Commits v h c false old new
 HasCommitted v h c (Err (faults.Damaged u offset)) room a b old new = ⊥
-HasCommitted v h c (Err faults.OutOfMemory) room a b old new = (refusal h c ≡ None) × Commits v h c false old new
+HasCommitted v h c (Err faults.OutOfMemory) room a b old new = (refusal v h c ≡ None) × Commits v h c false old new
 
 -- a volume's fault was counted, and is told of that volume
 abbrev pub IsCause : {A : Type 0} → ℕ → Result A StoreFault → Counts → Counts → Type 0

@@ -24,7 +24,7 @@ IsAtEnd v (Some end) spellings w = IsReady v end w × StandsTo v spellings end (
 pub record Knows (v : ℕ) (held : Held) (h : History) (w : Outside) : Type 0 where
   pub after : IsAfter held.state h
   pub region : held.state.region ≡ v
-  pub lawful : IsLawful h
+  pub lawful : IsLawful v h
   pub volume : IsAtEnd v held.end (spelled h) w
 
 abbrev pub IsKnown : ℕ → Held → Outside → Type 0

@@ -12,21 +12,21 @@ use Rattle.s3r_store.specs.declared.fault.StoreFault.TheVariants as faults
 use Rattle.s3r_store.specs.Stands.{StandsFor, DamagedAt}
 
 -- one command more was taken in
-pub record TakesOne (s : List ℕ) (h : History) (new : Contents) : Type 0 where
+pub record TakesOne (r : ℕ) (s : List ℕ) (h : History) (new : Contents) : Type 0 where
   pub command : Command
   pub fits : IsCommand command
   pub spelled : s ≡ spelling command
-  pub accepted : refusal h command ≡ None
+  pub accepted : refusal r h command ≡ None
   pub after : IsAfter new (command ∷ h)
 
 -- the command that is spelled so was taken in, or there is none that the history accepts
 abbrev pub TakesIn : {A : Type 0} → ℕ → ℕ → List ℕ → Result A StoreFault → Contents → Contents → Type 0
-TakesIn v at s (Ok x) old new = ((h : History) → IsAfter old h → TakesOne s h new) × (new.region ≡ old.region) × (new.regions ≡ old.regions)
+TakesIn v at s (Ok x) old new = ((h : History) → IsAfter old h → TakesOne old.region s h new) × (new.region ≡ old.region) × (new.regions ≡ old.regions)
 TakesIn v at s (Err (faults.Refused f)) old new = ⊥
 TakesIn v at s (Err (faults.Full u)) old new = ⊥
 TakesIn v at s (Err (faults.Volume u)) old new = ⊥
 TakesIn v at s (Err (faults.Damaged u offset)) old new =
-    (u ≡ v) × (offset ≡ at) × ((h : History) → IsAfter old h → (c : Command) → IsCommand c → s ≡ spelling c → refusal h c ≡ None → ⊥)
+    (u ≡ v) × (offset ≡ at) × ((h : History) → IsAfter old h → (c : Command) → IsCommand c → s ≡ spelling c → refusal old.region h c ≡ None → ⊥)
 TakesIn v at s (Err faults.OutOfMemory) old new = Unit {0}
 
 -- damage is told where it is, and the bytes stand for no lawful history then

@@ -6,8 +6,9 @@ use Rattle.std.proofs.lemmas.List.Sorted.{IsPermutation-insert}
 use Rattle.s3r_names.specs.declared.version.VersionId.{VersionId}
 use Rattle.s3r_versions.specs.declared.row.Row.{Row}
 use Rattle.s3r_versions.specs.Order.{comes_before, is_listed}
-use Rattle.s3r_versions.specs.Lookup.{is_version, find_version}
+use Rattle.s3r_versions.specs.Lookup.{is_version, has_each_once, find_version}
 use Rattle.s3r_versions.specs.Contents.{with_row}
+use Rattle.s3r_versions.proofs.Versions.{version_sym}
 use Rattle.s3r_versions.proofs.ListingOrder.{before_trans, before_back, is_own_version}
 
 -- ---- the place
@@ -48,7 +49,7 @@ adds_one row rows = subst (IsPermutation (row ∷ rows)) (insert-is row rows) (I
 
 -- ---- the order
 
-all_after : {B : Type 0} (row x : Row B) (rows : List (Row B)) → comes_before row x ≡ true → list_all (comes_before x) rows ≡ true → list_all (comes_before row) rows ≡ true
+pub all_after : {B : Type 0} (row x : Row B) (rows : List (Row B)) → comes_before row x ≡ true → list_all (comes_before x) rows ≡ true → list_all (comes_before row) rows ≡ true
 all_after row x [] first rest = refl
 all_after row x (y ∷ ys) first rest =
     let parts = and_parts (comes_before x y) (list_all (comes_before x) ys) rest in
@@ -83,6 +84,26 @@ stays_listed row (x ∷ xs) up new = go (comes_before row x) refl (stays_listed 
     go : (t : Bool) → comes_before row x ≡ t → is_listed (with_row row xs) ≡ true → is_listed (cond t (row ∷ x ∷ xs) (x ∷ with_row row xs)) ≡ true
     go true h ih = and_from _ _ (and_from _ _ h (all_after row x xs h parts.0)) up
     go false h ih = and_from _ _ (all-with_row (comes_before x) row xs (before_back row x news.0 h) parts.0) ih
+
+-- what isn't found is no row
+none_is : {X : Type 0} (p : X → Bool) (xs : List X) → find p xs ≡ None → list_all (λ x. not (p x)) xs ≡ true
+none_is p [] none = refl
+none_is p (x ∷ xs) none = let parts = none_parts p x xs none in and_from _ _ (ap not parts.0) (none_is p xs parts.1)
+
+pub stays_once : {B : Type 0} (row : Row B) (rows : List (Row B)) → has_each_once rows ≡ true → find_version row.key row.id rows ≡ None → has_each_once (with_row row rows) ≡ true
+stays_once row [] once new = refl
+stays_once row (x ∷ xs) once new = go (comes_before row x) (stays_once row xs parts.1 news.1)
+  where
+    parts : (list_all (λ other. not (is_version x.key x.id other)) xs ≡ true) × (has_each_once xs ≡ true)
+    parts = and_parts (list_all (λ other. not (is_version x.key x.id other)) xs) (has_each_once xs) once
+
+    news : (is_version row.key row.id x ≡ false) × (find_version row.key row.id xs ≡ None)
+    news = none_parts (is_version row.key row.id) x xs new
+
+    go : (t : Bool) → has_each_once (with_row row xs) ≡ true → has_each_once (cond t (row ∷ x ∷ xs) (x ∷ with_row row xs)) ≡ true
+    go true ih = and_from _ _ (none_is (is_version row.key row.id) (x ∷ xs) new) once
+    go false ih =
+        and_from _ _ (all-with_row (λ other. not (is_version x.key x.id other)) row xs (ap not (version_sym x row ∙ news.0)) parts.0) ih
 
 -- ---- what is found
 

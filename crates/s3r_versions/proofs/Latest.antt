@@ -1,10 +1,11 @@
 -- Of rows in the listing order the first of a key is its latest.
 use Rattle.std.proofs.Common.{◌≡◌, ℕ, zero, suc, arith, Bool, true, false, cond, not, ◌&&◌, ◌||◌, List, [], ◌∷◌, Option, Some, is_some, find, IfSome, Contains, refl, sym, ap, ◌∙◌}
 use Rattle.std.specs.List.{list_any, list_all}
-use Rattle.std.proofs.lemmas.Bool.{and_parts, and_from, or_from, or_parts, not-true}
+use Rattle.std.proofs.lemmas.Bool.{and_parts, and_from, and_right, or_from, or_parts, not-true}
 use Rattle.s3r_versions.specs.declared.row.Row.{Row}
-use Rattle.s3r_versions.specs.Order.{is_later, comes_before, is_listed}
+use Rattle.s3r_versions.specs.Order.{first_stamp, is_later, comes_before, is_listed}
 use Rattle.s3r_versions.specs.Lookup.{is_of_key, is_latest, latest}
+use Rattle.s3r_versions.proofs.Orders.{less_irrefl, stamp_order}
 use Rattle.s3r_versions.proofs.ListingOrder.{before_asym, later_before}
 
 -- what comes after a row isn't later, where it is of its key
@@ -17,21 +18,15 @@ not_later key x y same before = go (is_of_key key y && is_later y x) refl
         let parts = and_parts (is_of_key key y) (is_later y x) h in
         sym (later_before key y x parts.0 same parts.1) ∙ before_asym x y before
 
-none_later : {B : Type 0} (key : List ℕ) (x : Row B) (rows : List (Row B)) → is_of_key key x ≡ true → list_all (comes_before x) rows ≡ true → list_any (λ other. is_of_key key other && is_later other x) rows ≡ false
+pub none_later : {B : Type 0} (key : List ℕ) (x : Row B) (rows : List (Row B)) → is_of_key key x ≡ true → list_all (comes_before x) rows ≡ true → list_any (λ other. is_of_key key other && is_later other x) rows ≡ false
 none_later key x [] same before = refl
 none_later key x (y ∷ ys) same before =
     let parts = and_parts (comes_before x y) (list_all (comes_before x) ys) before in
     or_from _ _ (not_later key x y same parts.0) (none_later key x ys same parts.1)
 
 -- a row isn't later than itself
-itself_not_later : {B : Type 0} (key : List ℕ) (x : Row B) → is_of_key key x ≡ true → (is_of_key key x && is_later x x) ≡ false
-itself_not_later key x same = go (is_of_key key x && is_later x x) refl
-  where
-    go : (t : Bool) → (is_of_key key x && is_later x x) ≡ t → t ≡ false
-    go false h = refl
-    go true h =
-        let before = later_before key x x same same (and_parts (is_of_key key x) (is_later x x) h).1 in
-        sym before ∙ before_asym x x before
+pub itself_not_later : {B : Type 0} (key : List ℕ) (x : Row B) → is_of_key key x ≡ true → (is_of_key key x && is_later x x) ≡ false
+itself_not_later key x same = and_right (is_of_key key x) (is_later x x) (less_irrefl stamp_order (first_stamp x))
 
 -- the search for the latest row, where it is known whether x is of the key
 abbrev latest_past : {B : Type 0} → Bool → List ℕ → Row B → List (Row B) → List (Row B) → Option (Row B)
@@ -58,7 +53,7 @@ first-is-latest {B} key (x ∷ xs) up = go (is_of_key key x) refl (first-is-late
 -- ---- the latest row is the greatest of its key
 
 -- what is found stands there and passes
-found : {X : Type 0} (p : X → Bool) (xs : List X) (Q : X → Type 0) → ((x : X) → Contains xs x → p x ≡ true → Q x) → IfSome (find p xs) Q
+pub found : {X : Type 0} (p : X → Bool) (xs : List X) (Q : X → Type 0) → ((x : X) → Contains xs x → p x ≡ true → Q x) → IfSome (find p xs) Q
 found p [] Q gives = tt
 found {X} p (x ∷ xs) Q gives = go (p x) refl (found p xs Q (λ y inside passes. gives y (suc inside.0, omega arith, inside.2) passes))
   where

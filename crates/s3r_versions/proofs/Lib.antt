@@ -1,4 +1,13 @@
+pub mod Orders
 pub mod ListingOrder
 pub mod Latest
 pub mod Adding
+pub mod Versions
+pub mod Choosing
+pub mod Changing
+pub mod Writes
+pub mod RemovedIds
+pub mod Places
+pub mod Behind
+pub mod Pages
 pub mod VersionExamples

@@ -9,6 +9,11 @@ use Rattle.s3r_names.specs.declared.stamp.Stamp.{Stamp}
 use Rattle.s3r_names.specs.declared.version.VersionId.{VersionId}
 use Rattle.s3r_versions.specs.declared.row.Row.{Row}
 
+-- the test holds of each element and each that follows it
+abbrev pub all_pairs : {X : Type 0} → (X → X → Bool) → List X → Bool
+all_pairs test [] = true
+all_pairs test (x ∷ xs) = list_all (test x) xs && all_pairs test xs
+
 -- when a version was first written
 abbrev pub first_stamp : {B : Type 0} → Row B → Stamp
 first_stamp row = record { n = row.n; region = row.id.region; index = row.id.index }
@@ -23,8 +28,7 @@ comes_before a b = is_lt (slice_cmp nat_cmp a.key b.key) || (bytes_eq a.key b.ke
 
 -- each row comes before all that follow it
 abbrev pub is_listed : {B : Type 0} → List (Row B) → Bool
-is_listed [] = true
-is_listed (row ∷ rows) = list_all (comes_before row) rows && is_listed rows
+is_listed rows = all_pairs comes_before rows
 
 -- by region, then by index
 abbrev pub is_id_before : VersionId → VersionId → Bool
@@ -32,5 +36,4 @@ is_id_before a b = nat_lt a.region b.region || (a.region == b.region && nat_lt a
 
 -- each id is below those that follow it
 abbrev pub is_rising : List VersionId → Bool
-is_rising [] = true
-is_rising (id ∷ ids) = list_all (is_id_before id) ids && is_rising ids
+is_rising ids = all_pairs is_id_before ids

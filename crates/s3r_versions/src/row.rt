@@ -1,8 +1,9 @@
 //! A version of an object.
 
-ghost use Rattle.std.specs.Prelude.{◌≡◌};
+ghost use Rattle.std.specs.Prelude.{◌≡◌, position};
 ghost use Rattle.s3r_versions.specs.Order.{comes_before, first_stamp};
 ghost use Rattle.s3r_versions.specs.Lookup.{is_of_key, is_version};
+ghost use Rattle.s3r_versions.specs.Contents.{with_tags, with_hold};
 
 use s3r_names::{BucketName, ClassName, Key, Stamp, TagSet, VersionId, is_before};
 use std::cmp::Ordering;
@@ -63,4 +64,30 @@ pub fn is_version<B>(row: &Row<B>, key: &Key, id: VersionId) -> bool
     ensures { result ≡ is_version key.now id row.now }
 {
     row.key == *key && row.id == id
+}
+
+pub fn place_of_version<B>(rows: &[Row<B>], key: &Key, id: VersionId) -> Option<usize>
+    ensures { result ≡ position (is_version key.now id) rows.now }
+{
+    rows.iter().position(|row| is_version(row, key, id))
+}
+
+/// Writes the tags, unless those that are there have as great a stamp.
+pub fn write_tags<B>(row: &mut Row<B>, tags: TagSet, stamp: Stamp)
+    ensures { row.new ≡ with_tags stamp tags row.old }
+{
+    if is_before(row.tags_stamp, stamp) {
+        row.tags = tags;
+        row.tags_stamp = stamp;
+    }
+}
+
+/// Writes the hold, unless the one that is there has as great a stamp.
+pub fn write_hold<B>(row: &mut Row<B>, hold: bool, stamp: Stamp)
+    ensures { row.new ≡ with_hold stamp hold row.old }
+{
+    if is_before(row.hold_stamp, stamp) {
+        row.hold = hold;
+        row.hold_stamp = stamp;
+    }
 }

@@ -1,32 +1,34 @@
-use Rattle.std.proofs.Common.{◌≡◌, ℕ, List, length, Option, sym, ◌∙◌, ap, subst}
-use Rattle.std.specs.Prelude.{position}
-use Rattle.s3r_record.specs.declared.command.Command.TheVariants as command
+use Rattle.std.proofs.Common.{◌≡◌, ℕ, List, length, sym, ◌∙◌, ap, subst}
+use Rattle.std.proofs.lemmas.Result.{err_from_is_err_and}
 use Rattle.s3r_store.specs.declared.store.Store.{Store}
-use Rattle.s3r_desk.specs.declared.request.Request.{Request}
+use Rattle.s3r_desk.specs.declared.planning.Plan.{Plan}
+use Rattle.s3r_desk.specs.declared.planning.Plan.TheVariants.{Shows, Commits}
 use Rattle.s3r_desk.specs.Events.{history_at}
-use Rattle.s3r_desk.specs.Lookups.{shows_bucket, got}
-use Rattle.s3r_desk.specs.Steps.{step, home, shows}
-use Rattle.s3r_desk.specs.Responds.{Puts, Answers}
+use Rattle.s3r_desk.specs.Lookups.{views_of}
+use Rattle.s3r_desk.specs.Steps.{Step, step, made_of, plan}
+use Rattle.s3r_desk.specs.Responds.{Came}
 use Rattle.s3r_desk.proofs.Stepping.{looks_none}
-use Rattle.s3r_desk.proofs.Coming.{came_either}
-use Rattle.s3r_desk.proofs.Homes.{home_is, got_is}
+use Rattle.s3r_desk.proofs.Coming.{came_shown, came_starved}
+use Rattle.s3r_desk.proofs.Homes.{step_is}
 use Rattle.s3r_desk.proofs.answering.answer.Goals as goal
 
-pub returns-in-PutObject-clause-told : goal.returns-in-PutObject-clause-told
-returns-in-PutObject-clause-told g c = λ told before keeps.
-    let n = length c.args.stores.now.items in
-    let at = history_at before in
-    let put = command.Put c.in-PutObject.bucket c.in-PutObject.key c.in-PutObject.tags c.in-PutObject.hold c.in-PutObject.class c.in-PutObject.body in
-    let is : c.home_of-home.result ≡ home n at c.in-PutObject.bucket =
-    c.home_of-home.ensures ∙ ap (λ (l : List Store). position (shows_bucket c.in-PutObject.bucket) l) c.deref.ensures.value ∙ home_is before c.args.stores.now.items _ keeps c.requires.read c.in-PutObject.bucket in
-    subst (λ (q : Request). Answers before q c.put_object.result (g.W.World.shape c.args.world.now).room c.args.stores.now.items c.put_object.new.stores.items (g.W.World.outside c.args.world.now) (g.W.World.outside c.put_object.new.world)) (sym c.in-PutObject.is)
-    (subst (λ (o : Option ℕ). Puts before o put c.put_object.result (g.W.World.shape c.args.world.now).room c.args.stores.now.items c.put_object.new.stores.items (g.W.World.outside c.args.world.now) (g.W.World.outside c.put_object.new.world)) is
-    (c.put_object.ensures.told told before keeps))
+pub returns-in_err-answer-clause-told : goal.returns-in_err-answer-clause-told
+returns-in_err-answer-clause-told g c = λ told before keeps.
+    let p = err_from_is_err_and c.from_residual.result c.from_residual.ensures.1 in
+    rw (p.1, p.2) (came_starved before (step (length c.args.stores.now.items) (history_at before) c.args.request) _ c.args.stores.now.items c.args.stores.now.items (g.W.World.outside c.args.world.now) (g.W.World.outside c.args.world.now) (looks_none _) keeps)
 
-pub returns-in-GetObject-clause-told : goal.returns-in-GetObject-clause-told
-returns-in-GetObject-clause-told g c = λ told before keeps.
+pub returns-in-Shows-clause-told : goal.returns-in-Shows-clause-told
+returns-in-Shows-clause-told g c = λ told before keeps.
     let stores = c.args.stores.now.items in
-    let is : step (length stores) (history_at before) c.args.request ≡ shows (got c.in-GetObject.bucket c.in-GetObject.key c.deref-in-GetObject.result.now) =
-    ap (λ (q : Request). step (length stores) (history_at before) q) c.in-GetObject.is ∙ got_is before stores _ keeps c.requires.read c.in-GetObject.bucket c.in-GetObject.key
-    ∙ ap (λ (l : List Store). shows (got c.in-GetObject.bucket c.in-GetObject.key l)) (sym c.deref-in-GetObject.ensures.value) in
-    came_either before (step (length stores) (history_at before) c.args.request) _ stores stores (g.W.World.outside c.args.world.now) (g.W.World.outside c.args.world.now) _ c.get_object.result is c.get_object.ensures.shown c.get_object.ensures.faults (looks_none _) keeps
+    let planned : plan (length c.args.stores.now.items) (views_of c.args.stores.now.items) c.args.request ≡ Shows c.in-Shows.answer =
+    sym (ap (λ (l : List Store). plan (length l) (views_of l) c.args.request) c.deref.ensures.value) ∙ sym c.in_ok-answer.ensures.planned ∙ c.in-Shows.is in
+    came_shown before (step (length c.args.stores.now.items) (history_at before) c.args.request) _ stores stores (g.W.World.outside c.args.world.now) (g.W.World.outside c.args.world.now) c.in-Shows.answer
+    (step_is before c.args.stores.now.items _ keeps c.requires.read c.args.request ∙ ap (made_of (history_at before)) planned) (looks_none _) keeps
+
+pub returns-in-Commits-clause-told : goal.returns-in-Commits-clause-told
+returns-in-Commits-clause-told g c = λ told before keeps.
+    let planned : plan (length c.args.stores.now.items) (views_of c.args.stores.now.items) c.args.request ≡ Commits c.in-Commits.region c.in-Commits.command c.in-Commits.reply =
+    sym (ap (λ (l : List Store). plan (length l) (views_of l) c.args.request) c.deref.ensures.value) ∙ sym c.in_ok-answer.ensures.planned ∙ c.in-Commits.is in
+    subst (λ (s : Step). Came before s c.make.result (g.W.World.shape c.args.world.now).room c.args.stores.now.items c.make.new.stores.items (g.W.World.outside c.args.world.now) (g.W.World.outside c.make.new.world))
+    (sym (step_is before c.args.stores.now.items _ keeps c.requires.read c.args.request ∙ ap (made_of (history_at before)) planned))
+    (c.make.ensures.told told before keeps)

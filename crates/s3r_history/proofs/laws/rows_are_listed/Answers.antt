@@ -1,4 +1,5 @@
-use Rattle.s3r_history.proofs.HistoryRows.{rows_listed, ids_own, put_new, put_latest}
+use Rattle.s3r_history.proofs.HistoryRows.{rows_listed}
+use Rattle.s3r_history.proofs.LatestRows.{ids_own, next_new, put_latest, marker_latest, removed_gone}
 use Rattle.s3r_history.proofs.laws.rows_are_listed.Goals as goal
 
 pub returns-clause-listed : goal.returns-clause-listed
@@ -11,4 +12,10 @@ pub returns-clause-put_is_latest : goal.returns-clause-put_is_latest
 returns-clause-put_is_latest c = put_latest
 
 pub returns-clause-new : goal.returns-clause-new
-returns-clause-new c = put_new
+returns-clause-new c = next_new
+
+pub returns-clause-marker_is_latest : goal.returns-clause-marker_is_latest
+returns-clause-marker_is_latest c = marker_latest
+
+pub returns-clause-removed_is_gone : goal.returns-clause-removed_is_gone
+returns-clause-removed_is_gone c = removed_gone

@@ -1,4 +1,4 @@
-use Rattle.std.proofs.Common.{◌≡◌, ℕ, List, [], ◌∷◌, ◌++◌, Ok, Err, Result, inr, sym, ◌∙◌, ap, subst, arith}
+use Rattle.std.proofs.Common.{◌≡◌, ℕ, List, [], ◌∷◌, ◌++◌, None, Ok, Err, Result, inr, sym, ◌∙◌, ap, subst, arith}
 use Rattle.std.proofs.lemmas.Result.{err_from_is_err_and}
 use Rattle.s3r_world.specs.Image.{Image}
 use Rattle.s3r_world.specs.Moments.{looks_then, shape_then, falls_then}
@@ -10,6 +10,7 @@ use Rattle.s3r_journal.specs.Scan.{ReadsOn}
 use Rattle.s3r_store.specs.Stands.{spelled}
 use Rattle.s3r_store.specs.Faults.{fault_of_scan}
 use Rattle.s3r_store.specs.Reads.{IsDamage}
+use Rattle.s3r_history.specs.Accepts.{refusal}
 use Rattle.s3r_store.proofs.Damaged.{scan_damage, command_damage}
 use Rattle.s3r_store.proofs.reading.read_volume.Goals as goal
 
@@ -46,7 +47,7 @@ returns-in_err-take_in-in-Record-clause-damage g c = λ told.
     let reads = rw c.in-Record.is at (scans.reads (spelled known.0) (known.4 told)) in
     let front = subst (λ (l : List ℕ). Front c.args.v (spelled known.0 ++ c.in-Record.bytes.items ∷ []) c.in-Record.next l) (ap (λ (i : Image). i.volume c.args.v) scans.looks.as_read) reads in
     rw (p.1, p.2) (subst (λ (l : List ℕ). IsDamage c.args.v l c.in_err-take_in-in-Record.field-0.0) same
-    (command_damage c.args.v c.records.from _ known.0 known.2 (known.4 told) (Unit {0}) c.in-Record.bytes.items _ c.in-Record.next _ _ c.in_err-take_in-in-Record.field-0.0 c.deref.ensures.value answer front known.1 c.in_err-take_in-in-Record.ensures.told))
+    (command_damage c.args.v c.records.from _ known.0 known.2 (known.4 told) (Unit {0}) c.in-Record.bytes.items _ c.in-Record.next _ _ c.in_err-take_in-in-Record.field-0.0 c.deref.ensures.value answer front known.1 c.records.invariant.region c.in_err-take_in-in-Record.ensures.told))
 
 pub records-preserved : goal.records-preserved
 records-preserved g c =
@@ -59,7 +60,7 @@ records-preserved g c =
       known = (
         one.command ∷ known.0,
         one.after,
-        (one.fits, one.accepted, known.2),
+        (one.fits, subst (λ r. refusal r known.0 one.command ≡ None) c.records.invariant.region one.accepted, known.2),
         omega (arith, next.0, known.3),
         λ told.
             let reads = rw c.in-Record.is at ((c.in_ok-scan.ensures.told told).reads (spelled known.0) (known.4 told)) in

@@ -1,6 +1,6 @@
 use Rattle.s3r_versions.proofs.ListingOrder.{before_asym, before_trans, ranks_versions}
 use Rattle.s3r_versions.proofs.Latest.{latest_is_greatest, latest_is_there}
-use Rattle.s3r_versions.proofs.Adding.{stays_listed, adds_one, finds_it, finds_others}
+use Rattle.s3r_versions.proofs.Adding.{stays_listed, stays_once, adds_one, finds_it, finds_others}
 use Rattle.s3r_versions.proofs.laws.rows_are_ordered.Goals as goal
 
 pub returns-clause-strict : goal.returns-clause-strict
@@ -17,6 +17,9 @@ returns-clause-latest_is_there g c = λ key rows. latest_is_there key rows
 
 pub returns-clause-stays_listed : goal.returns-clause-stays_listed
 returns-clause-stays_listed g c = λ row rows. stays_listed row rows
+
+pub returns-clause-stays_once : goal.returns-clause-stays_once
+returns-clause-stays_once g c = λ row rows. stays_once row rows
 
 pub returns-clause-adds_one : goal.returns-clause-adds_one
 returns-clause-adds_one g c = λ row rows. adds_one row rows

@@ -1,10 +1,11 @@
-use Rattle.std.proofs.Common.{◌≡◌, ◌+◌, ℕ, List, ◌∷◌, length, true, false, Result, Err, Some, unwrap_or, sym, ◌∙◌, ap, subst, ⊎_elim, arith}
+use Rattle.std.proofs.Common.{◌≡◌, ◌+◌, ℕ, List, ◌∷◌, length, true, false, Result, Err, Some, None, unwrap_or, sym, ◌∙◌, ap, subst, ⊎_elim, arith}
 use Rattle.std.proofs.lemmas.Bool.{cases_lt}
 use Rattle.std.proofs.lemmas.Result.{err_from_is_err_and}
 use Rattle.s3r_record.specs.Spelling.{spelling}
 use Rattle.s3r_record.proofs.Lengths.{spelling_short, short_body}
 use Rattle.s3r_journal.specs.declared.writing.AppendFault.{AppendFault}
 use Rattle.s3r_journal.specs.declared.writing.AppendFault.TheVariants as append
+use Rattle.s3r_history.specs.Accepts.{refusal}
 use Rattle.s3r_store.specs.Writes.{Written}
 use Rattle.s3r_store.specs.Knows.{IsAtEnd}
 use Rattle.s3r_store.specs.Stands.{spelled}
@@ -21,7 +22,7 @@ write-requires-clause-frame g c = is_frame (spelling c.args.command) _ (c.deref.
 pub returns-in_err-frame-clause-told : goal.returns-in_err-frame-clause-told
 returns-in_err-frame-clause-told g c = λ told h knows.
     let p = err_from_is_err_and c.from_residual-in_err-frame.result c.from_residual-in_err-frame.ensures.1 in
-    rw (p.1, p.2) (c.in_ok-accepts.ensures h knows.after, commits_nothing c.args.v c.args.self.now.end h c.args.command (g.W.World.outside c.args.world.now) knows.volume knows.lawful)
+    rw (p.1, p.2) (subst (λ r. refusal r h c.args.command ≡ None) knows.region (c.in_ok-accepts.ensures h knows.after), commits_nothing c.args.v c.args.self.now.end h c.args.command (g.W.World.outside c.args.world.now) knows.volume knows.lawful)
 
 one_fault : (a b : AppendFault) → (let failed : AppendFault → Result ℕ AppendFault = λ e. Err e in failed a ≡ failed b) → a ≡ b
 one_fault a b e = cc
@@ -34,7 +35,7 @@ returns-in_err-end-clause-told g c = λ told h knows.
     let whole = c.deref.ensures.value ∙ c.in_ok-frame.ensures.framed in
     let is = frame_is (spelling c.args.command) _ whole in
     let size = length_is c.args.v c.args.self.now.end h c.args.command old c.deref.result.now knows.volume whole in
-    let accepted = c.in_ok-accepts.ensures h knows.after in
+    let accepted = subst (λ r. refusal r h c.args.command ≡ None) knows.region (c.in_ok-accepts.ensures h knows.after) in
     rw (p.1, p.2) (commit_failed c.args.v h c.args.command _ _ _ old new c.in_err-end.field-0.0 _ accepted c.in_err-end.ensures.fault
     (λ passes. omega (arith, size, c.in_err-end.ensures.full.0 (ap (λ e. Err e) passes)))
     (λ fault. ⊎_elim
@@ -49,7 +50,7 @@ returns-in_err-apply-clause-told g c = λ told h knows.
     let old = g.W.World.outside c.args.world.now in
     let new = g.W.World.outside c.write.new.world in
     let is = frame_is (spelling c.args.command) _ (c.deref.ensures.value ∙ c.in_ok-frame.ensures.framed) in
-    let accepted = c.in_ok-accepts.ensures h knows.after in
+    let accepted = subst (λ r. refusal r h c.args.command ≡ None) knows.region (c.in_ok-accepts.ensures h knows.after) in
     rw (p.1, p.2) (
       accepted,
       in_doubt c.args.v h c.args.command old new
@@ -63,9 +64,9 @@ returns-clause-told g c = λ told h knows.
     let whole = c.deref.ensures.value ∙ c.in_ok-frame.ensures.framed in
     let is = frame_is (spelling c.args.command) _ whole in
     let size = length_is c.args.v c.args.self.now.end h c.args.command old c.deref.result.now knows.volume whole in
-    let accepted = c.in_ok-accepts.ensures h knows.after in
+    let accepted = subst (λ r. refusal r h c.args.command ≡ None) knows.region (c.in_ok-accepts.ensures h knows.after) in
     let written = subst (λ (s : List ℕ). Written c.args.v c.args.self.now.end s true old new) is (c.in_ok-end.ensures.told told) in
-    let after = c.in_ok-apply.ensures.after h knows.after accepted in
+    let after = c.in_ok-apply.ensures.after h knows.after (c.in_ok-accepts.ensures h knows.after) in
     let end : unwrap_or c.args.self.now.end 16 + length (spelling c.args.command) + 5 ≡ c.in_ok-end.end = omega (arith, frame_length (spelling c.args.command) _ whole, c.in_ok-end.ensures.end) in (
       omega (arith, c.commands.ensures, after.commands),
       accepted,

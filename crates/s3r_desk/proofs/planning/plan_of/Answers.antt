@@ -1,0 +1,22 @@
+use Rattle.s3r_desk.proofs.planning.plan_of.Goals as goal
+
+pub returns-in-ListVersions-clause-fits : goal.returns-in-ListVersions-clause-fits
+returns-in-ListVersions-clause-fits c = c.listed.ensures.fits _
+
+pub returns-in-GetObject-clause-fits : goal.returns-in-GetObject-clause-fits
+returns-in-GetObject-clause-fits c = c.get_object.ensures.fits _
+
+pub returns-in-GetTags-clause-fits : goal.returns-in-GetTags-clause-fits
+returns-in-GetTags-clause-fits c = c.get_tags.ensures.fits _
+
+pub returns-in-GetHold-clause-fits : goal.returns-in-GetHold-clause-fits
+returns-in-GetHold-clause-fits c = c.get_hold.ensures.fits _
+
+pub returns-in-DeleteObject-clause-fits : goal.returns-in-DeleteObject-clause-fits
+returns-in-DeleteObject-clause-fits c = c.delete_object.ensures.fits _ c.home_of-home-in-DeleteObject.ensures.within
+
+pub returns-in-PutTags-clause-fits : goal.returns-in-PutTags-clause-fits
+returns-in-PutTags-clause-fits c = c.put_tags.ensures.fits _ c.home_of-home-in-PutTags.ensures.within
+
+pub returns-in-PutHold-clause-fits : goal.returns-in-PutHold-clause-fits
+returns-in-PutHold-clause-fits c = c.put_hold.ensures.fits _ c.home_of-home-in-PutHold.ensures.within

@@ -1,0 +1,31 @@
+//! The region that has a bucket, found by its name.
+ghost use Rattle.std.specs.Prelude.{◌≡◌, ◌<◌, IsTrue, IfSome, option_copied, option_map, length};
+ghost use Rattle.s3r_region.specs.Contents.{have_ids};
+ghost use Rattle.s3r_desk.specs.Steps.{home};
+ghost use Rattle.s3r_desk.specs.Lookups.{bucket_in, views_of, seen_home};
+
+use crate::home::Home;
+use s3r_names::BucketName;
+use s3r_region::Bucket;
+use s3r_store::Store;
+
+fn bucket_in<'a>(store: &'a Store, name: &BucketName) -> Option<&'a Bucket>
+    ensures found { option_copied result ≡ bucket_in name.now store.now }
+    ensures ids { IfSome result (λ bucket. IsTrue (have_ids bucket.now.rows.rows)) }
+{
+    let state = store.state()?;
+    state.bucket(name)
+}
+
+/// The least region that has the bucket.
+pub fn home_of<'a>(stores: &'a [Store], name: &BucketName) -> Option<Home<'a>>
+    ensures least { option_map seen_home result ≡ home (length stores.now) (views_of stores.now) name.now }
+    ensures within { IfSome result (λ h. h.region < length stores.now) }
+{
+    for region in 0..stores.len() {
+        if let Some(bucket) = bucket_in(&stores[region], name) {
+            return Some(Home { region, bucket });
+        }
+    }
+    None
+}
