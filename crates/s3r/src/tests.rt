@@ -45,6 +45,14 @@ fn refused(alloc: Global, status: &str, json: &str) -> Result<String, AllocError
     )
 }
 
+// A listing.
+fn listed(alloc: Global, json: &str) -> Result<String, AllocError> {
+    let length = json.len();
+    format!(in alloc;
+        "HTTP/1.1 200 OK\r\nContent-Length: {length}\r\nContent-Type: application/json\r\n\r\n{json}"
+    )
+}
+
 fn words(alloc: Global, regions: &str) -> Result<Vec<String>, AllocError> {
     let mut words = Vec::new(alloc);
     for word in [".", regions, "do"] {
@@ -218,6 +226,90 @@ fn markers_and_deletion(rt: HostRuntime) -> Result<(), Fail> {
         ),
     ];
     expect_rows(&rt, alloc, &rows)
+}
+
+// Under Object Lock a version that is held stays until its hold is OFF.
+#[test]
+fn legal_holds(rt: HostRuntime) -> Result<(), Fail> {
+    let alloc = rt.alloc();
+    let lock = "x-amz-bucket-object-lock-enabled: true\r\n";
+    let held = "x-amz-object-lock-legal-hold: ON\r\n";
+    let second = "x-amz-version-id: 0-0000000000000002\r\n";
+    let version = "/lkk/k?versionId=0-0000000000000002";
+    let marker = "x-amz-delete-marker: true\r\nx-amz-version-id: 0-0000000000000003\r\n";
+    let rows = [
+        (request(alloc, "PUT", "/lkk", lock, "")?, done(alloc, "")?),
+        (
+            request(alloc, "PUT", "/lkk/k", held, "hi")?,
+            done(alloc, second)?,
+        ),
+        (
+            request(alloc, "DELETE", version, "", "")?,
+            refused(alloc, "403 Forbidden", "{\"Code\":\"AccessDenied\"}")?,
+        ),
+        (
+            request(alloc, "DELETE", "/lkk/k", "", "")?,
+            format!(in alloc; "HTTP/1.1 204 No Content\r\n{marker}\r\n")?,
+        ),
+        (
+            put(
+                alloc,
+                "/lkk/k?legal-hold&versionId=0-0000000000000002",
+                "{\"Status\":\"OFF\"}",
+            )?,
+            done(alloc, second)?,
+        ),
+        (
+            request(alloc, "DELETE", version, "", "")?,
+            format!(in alloc; "HTTP/1.1 204 No Content\r\n{second}\r\n")?,
+        ),
+        (
+            get(alloc, "/lkk?versions&max-keys=1000&prefix=k")?,
+            listed(
+                alloc,
+                "{\"DeleteMarkers\":[{\"IsLatest\":true,\"Key\":\"k\",\"VersionId\":\"0-0000000000000003\"}],\"IsTruncated\":false,\"Versions\":[]}",
+            )?,
+        ),
+    ];
+    expect_rows(&rt, alloc, &rows)
+}
+
+// So many puts, and then these pages of their listing.
+fn puts_and_pages(alloc: Global, puts: u32, pages: &[&str]) -> Result<String, AllocError> {
+    let mut input = put(alloc, "/abc", "")?;
+    for i in 1000..puts.saturating_add(1000) {
+        let target = format!(in alloc; "/abc/p%2F{i}")?;
+        input.push_str(put(alloc, target.as_str(), "")?.as_str())?;
+    }
+    for page in pages {
+        let target = format!(in alloc; "/abc?versions{page}")?;
+        input.push_str(get(alloc, target.as_str())?.as_str())?;
+    }
+    Ok(input)
+}
+
+// 2,500 versions in three pages, the second behind a key and the third behind a version.
+#[test]
+fn pages_of_a_listing(rt: HostRuntime) -> Result<(), Fail> {
+    let alloc = rt.alloc();
+    let pages = [
+        "&prefix=p%2F",
+        "&prefix=p%2f&key-marker=p/1999",
+        "&prefix=p/&max-keys=1000&key-marker=p/2999&version-id-marker=0-00000000000007d1",
+    ];
+    let input = puts_and_pages(alloc, 2500, &pages)?;
+    let mut world = world_of(alloc, 1, ROOM, input.as_str())?;
+    let words = words(alloc, "1")?;
+    assert_eq!(rt; s3r(alloc, &words, &mut world), 0);
+    let output = world.output();
+    assert_eq!(rt; count(output, b"\"Key\":\"p/"), 2500);
+    for next in ["p/1999", "p/2999"] {
+        let member = format!(in alloc; "\"IsTruncated\":true,\"NextKeyMarker\":\"{next}\"")?;
+        assert_eq!(rt; count(output, member.as_bytes()), 1);
+    }
+    assert_eq!(rt; count(output, b"\"IsTruncated\":false"), 1);
+    assert_eq!(rt; count(output, b"\"Key\":\"p/3499\""), 1);
+    Ok(())
 }
 
 // Bytes that begin no request end it, and what was made before stands.

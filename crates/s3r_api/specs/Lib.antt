@@ -1,8 +1,9 @@
 pub mod Problems
-pub mod Target
-pub mod Places
+pub mod Faults
 pub mod Location
+pub mod Lines
 pub mod Request
+pub mod Asking
 pub mod Ids
 pub mod Listings
 pub mod Replies

@@ -1,96 +1,155 @@
 -- Which request of the desk a framed request is.
-use Rattle.std.specs.Prelude.{ℕ, ◌&&◌, ◌||◌, not, Bool, false, if◌then◌else◌, nat_lt, List, [], length, None, Result, Ok, Err, codes}
-use Rattle.std.specs.List.{list_any}
+use Rattle.std.specs.Prelude.{ℕ, Bool, true, false, if◌then◌else◌, is_some, List, [], Option, Some, None, Result, Ok, Err, codes, ◌&&◌, not}
 use Rattle.std.specs.Str.{bytes_eq}
-use Rattle.percent_encoding.specs.Percent.{percent_decode}
-use Rattle.s3r_names.specs.Bucket.{is_bucket_name}
-use Rattle.s3r_names.specs.Key.{is_key}
-use Rattle.s3r_http.specs.declared.message.Field.{Field}
+use Rattle.s3r_names.specs.declared.version.VersionId.{VersionId}
 use Rattle.s3r_http.specs.declared.message.RawRequest.{RawRequest}
-use Rattle.s3r_http.specs.Lines.{is_alike}
+use Rattle.s3r_json.specs.Status.{status_body}
+use Rattle.s3r_json.specs.Tags.{tags_body}
+use Rattle.s3r_routes.specs.Target.{Place, bucket, object, path_of, place_of}
+use Rattle.s3r_routes.specs.Query as query
+use Rattle.s3r_routes.specs.Query.{Pair}
+use Rattle.s3r_routes.specs.declared.words.Word.TheVariants as word
+use Rattle.s3r_routes.specs.declared.rows.Route.{Route}
+use Rattle.s3r_routes.specs.declared.rows.Route.TheVariants as route
+use Rattle.s3r_routes.specs.Rows.{route_of}
+use Rattle.s3r_routes.specs.Names.{bucket_named, key_named, key_written, version_named}
+use Rattle.s3r_routes.specs.Values.{given, limit_of, version_of}
+use Rattle.s3r_versions.specs.declared.listing.Place.{Place as Behind}
 use Rattle.s3r_desk.specs.declared.request.Request.{Request}
 use Rattle.s3r_desk.specs.declared.request.Request.TheVariants as request
 use Rattle.s3r_api.specs.declared.problem.Problem.{Problem}
-use Rattle.s3r_api.specs.declared.problem.Problem.TheVariants.{InvalidBucketName, KeyTooLong, InvalidKey, NoSuchRoute, UnknownQuery}
-use Rattle.s3r_api.specs.Target.{Place, nowhere, special, bucket, object, path_of, has_query, place_of}
+use Rattle.s3r_api.specs.declared.problem.Problem.TheVariants.{NoSuchRoute, UnknownQuery, InvalidQuery}
+use Rattle.s3r_api.specs.Faults.{routed, from_body}
 use Rattle.s3r_api.specs.Location.{region_of}
+use Rattle.s3r_api.specs.Lines.{locked_by, tags_by, hold_by, class_by}
 
 infixl 10 ◌>>=◌
 abbrev pub ◌>>=◌ : {A B : Type 0} → Result A Problem → (A → Result B Problem) → Result B Problem
 (Ok x) >>= f = f x
 (Err problem) >>= f = Err problem
 
-abbrev pub is_method : List ℕ → RawRequest → Bool
-is_method method raw = bytes_eq raw.method method
-
 -- the method is HEAD
 abbrev pub is_head : RawRequest → Bool
-is_head raw = is_method (codes "HEAD") raw
+is_head raw = bytes_eq raw.method (codes "HEAD")
 
--- a header line of this name is there
-abbrev pub has_line : List ℕ → RawRequest → Bool
-has_line name raw = list_any (λ (field : Field). is_alike field.name name) raw.fields
+-- ---- a listing's words
 
-abbrev pub bucket_named : List ℕ → Result (List ℕ) Problem
-bucket_named name = if is_bucket_name name then Ok name else Err InvalidBucketName
+abbrev pub or_empty : Option (List ℕ) → List ℕ
+or_empty None = []
+or_empty (Some text) = text
 
-abbrev pub key_named : List ℕ → Result (List ℕ) Problem
-key_named key = if nat_lt 1024 (length key) then Err KeyTooLong else (if is_key key then Ok key else Err InvalidKey)
+-- a version's marker says something beside a key's alone
+abbrev pub limit_asked : List Pair → Result ℕ Problem
+limit_asked words = routed (limit_of words) >>= λ limit.
+    if is_some (given word.VersionIdMarker words) && not (is_some (given word.KeyMarker words)) then Err InvalidQuery else Ok limit
 
--- a bucket without Object Lock is asked for
-abbrev pub creates_bucket : RawRequest → Bool
-creates_bucket raw = not (has_query raw.target) && is_method (codes "PUT") raw && not (has_line (codes "x-amz-bucket-object-lock-enabled") raw)
+abbrev pub id_behind : Option (List ℕ) → Result (Option VersionId) Problem
+id_behind None = Ok None
+id_behind (Some text) = routed (version_named text) >>= λ id. Ok (Some id)
 
--- an object is put without tags, without a hold and in no class of its own
-abbrev pub puts_object : RawRequest → Bool
-puts_object raw = not (has_query raw.target)
-    && is_method (codes "PUT") raw
-    && not (has_line (codes "x-amz-tagging") raw)
-    && not (has_line (codes "x-amz-object-lock-legal-hold") raw)
-    && not (has_line (codes "x-amz-storage-class") raw)
+-- the place behind which the page begins
+abbrev pub place_behind : Option (List ℕ) → Option (List ℕ) → Result (Option Behind) Problem
+place_behind None id = Ok None
+place_behind (Some key) id = routed (key_named key) >>= λ k. id_behind id >>= λ version. Ok (Some (record { key = k; id = version }))
 
-abbrev pub gets_object : RawRequest → Bool
-gets_object raw = not (has_query raw.target) && (is_method (codes "GET") raw || is_head raw)
+abbrev pub list_request : List Pair → List ℕ → Result Request Problem
+list_request words name = do
+  limit ← limit_asked words
+  after ← place_behind (given word.KeyMarker words) (given word.VersionIdMarker words)
+  Ok (request.ListVersions name (or_empty (query.value word.Prefix words)) after limit)
 
--- a bucket or an object is to be deleted, and no version of it is named
-abbrev pub deletes : RawRequest → Bool
-deletes raw = not (has_query raw.target) && is_method (codes "DELETE") raw
+-- ---- what is asked of a bucket
 
--- whether the bucket is there
-abbrev pub heads_bucket : RawRequest → Bool
-heads_bucket raw = not (has_query raw.target) && is_head raw
+abbrev pub create_request : RawRequest → List ℕ → Result Request Problem
+create_request raw name = locked_by raw >>= λ locked. region_of raw.body >>= λ region. Ok (request.CreateBucket name region locked)
 
-abbrev pub bucket_asked : RawRequest → List ℕ → Result Request Problem
-bucket_asked raw name = if heads_bucket raw then Ok (request.HeadBucket name) else (if deletes raw then Ok (request.DeleteBucket name) else Err UnknownQuery)
+abbrev pub versioning_request : RawRequest → List ℕ → Result Request Problem
+versioning_request raw name = from_body (status_body (codes "Enabled") (codes "Suspended") raw.body) >>= λ enabled. Ok (request.PutVersioning name enabled)
 
--- what is asked of a bucket
+abbrev pub bucket_asked : RawRequest → List Pair → List ℕ → Route → Result Request Problem
+bucket_asked raw words name route.CreateBucket = create_request raw name
+bucket_asked raw words name route.HeadBucket = Ok (request.HeadBucket name)
+bucket_asked raw words name route.DeleteBucket = Ok (request.DeleteBucket name)
+bucket_asked raw words name route.PutVersioning = versioning_request raw name
+bucket_asked raw words name route.GetVersioning = Ok (request.GetVersioning name)
+bucket_asked raw words name route.ListVersions = list_request words name
+bucket_asked raw words name other = Err UnknownQuery
+
+-- ---- what is asked of an object
+
+abbrev pub put_request : RawRequest → List ℕ → List ℕ → Result Request Problem
+put_request raw name key = do
+  tags ← tags_by raw
+  hold ← hold_by raw
+  class ← class_by raw
+  Ok (request.PutObject name key raw.body tags hold class)
+
+abbrev pub tags_request : RawRequest → List ℕ → List ℕ → Option VersionId → Result Request Problem
+tags_request raw name key version = from_body (tags_body raw.body) >>= λ tags. Ok (request.PutTags name key version tags false)
+
+abbrev pub hold_request : RawRequest → List ℕ → List ℕ → Option VersionId → Result Request Problem
+hold_request raw name key version = from_body (status_body (codes "ON") (codes "OFF") raw.body) >>= λ hold. Ok (request.PutHold name key version hold)
+
+-- of a version, or of the latest where none is named
+abbrev pub version_asked : RawRequest → List ℕ → List ℕ → Option VersionId → Route → Result Request Problem
+version_asked raw name key version route.GetObject = Ok (request.GetObject name key version)
+version_asked raw name key version route.DeleteObject = Ok (request.DeleteObject name key version)
+version_asked raw name key version route.DeleteVersion = Ok (request.DeleteObject name key version)
+version_asked raw name key version route.PutTags = tags_request raw name key version
+version_asked raw name key version route.GetTags = Ok (request.GetTags name key version)
+version_asked raw name key version route.DeleteTags = Ok (request.PutTags name key version [] true)
+version_asked raw name key version route.PutHold = hold_request raw name key version
+version_asked raw name key version route.GetHold = Ok (request.GetHold name key version)
+version_asked raw name key version other = Err UnknownQuery
+
+abbrev pub is_put : Route → Bool
+is_put route.PutObject = true
+is_put other = false
+
+abbrev pub object_asked : RawRequest → List Pair → List ℕ → List ℕ → Route → Result Request Problem
+object_asked raw words name key r = if is_put r then put_request raw name key else (routed (version_of words) >>= λ version. version_asked raw name key version r)
+
+-- ---- a target's place, its words and its row
+
+-- the words of the target, and the row that they fit
+pub record Asked : Type 0 where
+  pub words : List Pair
+  pub route : Route
+
+abbrev pub asked_at : RawRequest → Place → Result Asked Problem
+asked_at raw place = do
+  words ← routed (query.read raw.target)
+  route ← routed (route_of place raw.method words)
+  Ok (record { words = words; route = route })
+
 unfoldable pub bucket_request : RawRequest → List ℕ → Result Request Problem
 bucket_request raw bytes = do
-  name ← bucket_named bytes
-  if creates_bucket raw then (region_of raw.body >>= λ region. Ok (request.CreateBucket name region false)) else bucket_asked raw name
+  name ← routed (bucket_named bytes)
+  asked ← asked_at raw (bucket bytes)
+  bucket_asked raw asked.words name asked.route
 
-abbrev pub object_read : RawRequest → List ℕ → List ℕ → Result Request Problem
-object_read raw name key =
-    if gets_object raw then Ok (request.GetObject name key None) else (if deletes raw then Ok (request.DeleteObject name key None) else Err UnknownQuery)
-
-abbrev pub object_asked : RawRequest → List ℕ → List ℕ → Result Request Problem
-object_asked raw name key =
-    if puts_object raw then Ok (request.PutObject name key raw.body [] false (codes "STANDARD")) else object_read raw name key
-
--- what is asked of an object, its key being as it was written
+-- the key is as it was written
 unfoldable pub object_request : RawRequest → List ℕ → List ℕ → Result Request Problem
 object_request raw bytes written = do
-  name ← bucket_named bytes
-  key ← key_named (percent_decode written)
-  object_asked raw name key
+  name ← routed (bucket_named bytes)
+  key ← routed (key_written written)
+  asked ← asked_at raw (object bytes written)
+  object_asked raw asked.words name key asked.route
+
+-- a row that is there and isn't built
+abbrev pub other_request : RawRequest → Place → Result Request Problem
+other_request raw place = asked_at raw place >>= λ asked. Err UnknownQuery
 
 abbrev pub request_at : RawRequest → Place → Result Request Problem
-request_at raw nowhere = Err NoSuchRoute
-request_at raw special = Err UnknownQuery
 request_at raw (bucket name) = bucket_request raw name
 request_at raw (object name key) = object_request raw name key
+request_at raw other = other_request raw other
 
--- The request that a framed request is, or the first reason why it is none: its route, then its names, then what of it
--- isn't built, then its body.
+abbrev pub request_in : RawRequest → Option Place → Result Request Problem
+request_in raw None = Err NoSuchRoute
+request_in raw (Some place) = request_at raw place
+
+-- The request that a framed request is, or the first reason why it is none: its path, then its names, its words, its
+-- row, what its words say, its header lines and its body.
 unfoldable pub request_of : RawRequest → Result Request Problem
-request_of raw = request_at raw (place_of (path_of raw.target))
+request_of raw = request_in raw (place_of (path_of raw.target))

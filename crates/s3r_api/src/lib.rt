@@ -3,12 +3,13 @@
 
 mod answer;
 mod ids;
+mod lines;
 mod listings;
 mod location;
+mod page;
 mod problem;
 mod replies;
 mod request;
-mod target;
 
 pub use answer::{answer_bytes, ids_are_spelled, problem_bytes};
 pub use problem::{Problem, framing_problem};

@@ -4,6 +4,8 @@ ghost use Rattle.std.specs.Prelude.{◌≡◌};
 ghost use Rattle.s3r_api.specs.Problems.{problem_of};
 
 use s3r_http::HttpFault;
+use s3r_json::BodyFault;
+use s3r_routes::RouteFault;
 use std::alloc::AllocError;
 
 /// Why a request isn't one of the desk's.
@@ -12,12 +14,23 @@ pub enum Problem {
     InvalidBucketName,
     KeyTooLong,
     InvalidKey,
+    /// Tags that no set may have.
+    InvalidTag,
+    /// A version's id of another form.
+    InvalidVersionId,
+    InvalidStorageClass,
+    /// A word of the query, or the line of Object Lock, that says what it can't.
+    InvalidQuery,
+    /// A legal hold that is neither `ON` nor `OFF`.
+    InvalidHold,
     /// The body isn't the JSON that the route asks for.
     MalformedJson,
     /// The target is no path, or the path of nothing.
     NoSuchRoute,
-    /// A route, a method, a query or a header line that isn't built.
+    /// No row of the request table has this path with these words, or it isn't built.
     UnknownQuery,
+    /// Such a row is there, by another method.
+    WrongMethod,
     // A request that can't be framed.
     BadHead,
     HeadTooLong,
@@ -35,6 +48,40 @@ impl From<AllocError> for Problem {
 
     fn from(_: AllocError) -> Self {
         Problem::OutOfMemory
+    }
+}
+
+impl From<RouteFault> for Problem {
+    ghost use Rattle.s3r_api.specs.Faults.{of_route};
+
+    ghost from_gives = { λ fault problem. problem ≡ of_route fault };
+
+    fn from(fault: RouteFault) -> Self {
+        match fault {
+            RouteFault::NoSuchRoute => Problem::NoSuchRoute,
+            RouteFault::InvalidBucketName => Problem::InvalidBucketName,
+            RouteFault::KeyTooLong => Problem::KeyTooLong,
+            RouteFault::InvalidKey => Problem::InvalidKey,
+            RouteFault::InvalidQuery => Problem::InvalidQuery,
+            RouteFault::UnknownQuery => Problem::UnknownQuery,
+            RouteFault::WrongMethod => Problem::WrongMethod,
+            RouteFault::InvalidVersionId => Problem::InvalidVersionId,
+            RouteFault::OutOfMemory => Problem::OutOfMemory,
+        }
+    }
+}
+
+impl From<BodyFault> for Problem {
+    ghost use Rattle.s3r_api.specs.Faults.{of_body};
+
+    ghost from_gives = { λ fault problem. problem ≡ of_body fault };
+
+    fn from(fault: BodyFault) -> Self {
+        match fault {
+            BodyFault::MalformedJson => Problem::MalformedJson,
+            BodyFault::InvalidTag => Problem::InvalidTag,
+            BodyFault::OutOfMemory => Problem::OutOfMemory,
+        }
     }
 }
 

@@ -1,123 +1,212 @@
 //! A framed request as a request of the desk.
 
 ghost use Rattle.std.specs.Prelude.{◌≡◌, ◌≤◌, length, IfOk, IfErr};
-ghost use Rattle.std.specs.List.{list_any};
-ghost use Rattle.percent_encoding.specs.Percent.{percent_decode};
-ghost use Rattle.s3r_http.specs.Lines.{is_alike};
 ghost use Rattle.s3r_desk.specs.Steps.{IsRequest};
-ghost use Rattle.s3r_api.specs.Problems.{Gives, IsOfRequest};
-ghost use Rattle.s3r_api.specs.Request.{is_method, is_head, has_line, bucket_named, key_named, creates_bucket, puts_object, gets_object, deletes, heads_bucket, bucket_asked, object_read, bucket_request, object_asked, object_request, request_of};
+ghost use Rattle.s3r_routes.specs.Places.{seen};
+ghost use Rattle.s3r_api.specs.Problems.{Gives, GivesBy, IsOfRequest};
+ghost use Rattle.s3r_api.specs.Asking.{asked_seen};
+ghost use Rattle.s3r_api.specs.Request.{is_head, create_request, versioning_request, bucket_asked, put_request, tags_request, hold_request, version_asked, is_put, object_asked, asked_at, bucket_request, object_request, other_request, request_at, request_of};
 
+use crate::lines::{class_by, hold_by, locked_by, tags_by};
 use crate::location::region_of;
+use crate::page::list_request;
 use crate::problem::Problem;
-use crate::target::{Place, has_query, path_of, place_of};
-use percent_encoding::percent_decode;
 use s3r_desk::Request;
-use s3r_http::{Field, RawRequest};
-use s3r_names::{BucketName, ClassName, Key, NameFault, TagSet};
+use s3r_http::RawRequest;
+use s3r_json::{status_of, tags_of};
+use s3r_names::{BucketName, Key, TagSet, VersionId};
+use s3r_routes::{
+    Place, Query, Route, bucket_named, key_written, path_of, place_of, route_of, version_of,
+};
 use std::alloc::Global;
-
-fn is_method(raw: &RawRequest, method: &str) -> bool
-    ensures { result ≡ is_method method.now raw.now }
-{
-    raw.method.as_str() == method
-}
 
 /// Whether the method is HEAD.
 pub fn is_head(raw: &RawRequest) -> bool
     ensures { result ≡ is_head raw.now }
 {
-    is_method(raw, "HEAD")
+    raw.method.as_str() == "HEAD"
 }
 
-fn is_named(field: &Field, name: &str) -> bool
-    ensures { result ≡ is_alike field.now.name name.now }
-{
-    field.name.as_bytes().eq_ignore_ascii_case(name.as_bytes())
+/// The words of a target, and the row that they fit.
+#[derive(Drop)]
+struct Asked {
+    words: Query,
+    route: Route,
 }
 
-fn any_named(fields: &[Field], name: &str) -> bool
-    ensures { result ≡ list_any (λ field. is_alike field.name name.now) fields.now }
+fn asked_at(alloc: Global, raw: &RawRequest, place: &Place) -> Result<Asked, Problem>
+    ensures { GivesBy asked_seen result (asked_at raw.now (seen place.now)) }
 {
-    fields.iter().any(|field| is_named(field, name))
+    let words = Query::read(alloc, raw.target.as_slice())?;
+    let route = route_of(place, raw.method.as_str(), &words)?;
+    Ok(Asked { words, route })
 }
 
-fn has_line(raw: &RawRequest, name: &str) -> bool
-    ensures { result ≡ has_line name.now raw.now }
+fn create_request(alloc: Global, raw: &RawRequest, name: BucketName) -> Result<Request, Problem>
+    ensures { Gives result (create_request raw.now name) }
 {
-    any_named(raw.fields.as_slice(), name)
+    let locked = locked_by(raw)?;
+    let region = region_of(alloc, raw.body.as_slice())?;
+    Ok(Request::CreateBucket {
+        name,
+        region,
+        locked,
+    })
 }
 
-fn bucket_named(alloc: Global, bytes: &[u8]) -> Result<BucketName, Problem>
-    ensures { Gives result (bucket_named bytes.now) }
+fn versioning_request(alloc: Global, raw: &RawRequest, name: BucketName) -> Result<Request, Problem>
+    ensures { Gives result (versioning_request raw.now name) }
 {
-    match BucketName::read(alloc, bytes) {
-        Ok(name) => Ok(name),
-        Err(NameFault::InvalidBucketName) => Err(Problem::InvalidBucketName),
-        Err(_) => Err(Problem::OutOfMemory),
+    let enabled = status_of(alloc, raw.body.as_slice(), "Enabled", "Suspended")?;
+    Ok(Request::PutVersioning { name, enabled })
+}
+
+/// What a row asks of a bucket.
+fn bucket_asked(
+    alloc: Global,
+    raw: &RawRequest,
+    words: &Query,
+    name: BucketName,
+    route: Route,
+) -> Result<Request, Problem>
+    ensures { Gives result (bucket_asked raw.now words.now name route) }
+{
+    match route {
+        Route::CreateBucket => create_request(alloc, raw, name),
+        Route::HeadBucket => Ok(Request::HeadBucket { name }),
+        Route::DeleteBucket => Ok(Request::DeleteBucket { name }),
+        Route::PutVersioning => versioning_request(alloc, raw, name),
+        Route::GetVersioning => Ok(Request::GetVersioning { name }),
+        Route::ListVersions => list_request(alloc, words, name),
+        _ => Err(Problem::UnknownQuery),
     }
 }
 
-/// The key of a path, where it is written percent-encoded.
-fn key_named(alloc: Global, written: &[u8]) -> Result<Key, Problem>
-    ensures { Gives result (key_named (percent_decode written.now)) }
+fn put_request(
+    alloc: Global,
+    raw: &RawRequest,
+    bucket: BucketName,
+    key: Key,
+) -> Result<Request, Problem>
+    ensures { Gives result (put_request raw.now bucket key) }
 {
-    let mut bytes = Vec::new(alloc);
-    percent_decode(written).append_to(&mut bytes)?;
-    match Key::read(alloc, bytes.as_slice()) {
-        Ok(key) => Ok(key),
-        Err(NameFault::KeyTooLong) => Err(Problem::KeyTooLong),
-        Err(NameFault::InvalidKey) => Err(Problem::InvalidKey),
-        Err(_) => Err(Problem::OutOfMemory),
+    let tags = tags_by(alloc, raw)?;
+    let hold = hold_by(raw)?;
+    let class = class_by(alloc, raw)?;
+    Ok(Request::PutObject {
+        bucket,
+        key,
+        body: raw.body.clone()?,
+        tags,
+        hold,
+        class,
+    })
+}
+
+fn tags_request(
+    alloc: Global,
+    raw: &RawRequest,
+    bucket: BucketName,
+    key: Key,
+    version: Option<VersionId>,
+) -> Result<Request, Problem>
+    ensures { Gives result (tags_request raw.now bucket key version) }
+{
+    let tags = tags_of(alloc, raw.body.as_slice())?;
+    Ok(Request::PutTags {
+        bucket,
+        key,
+        version,
+        tags,
+        gone: false,
+    })
+}
+
+fn hold_request(
+    alloc: Global,
+    raw: &RawRequest,
+    bucket: BucketName,
+    key: Key,
+    version: Option<VersionId>,
+) -> Result<Request, Problem>
+    ensures { Gives result (hold_request raw.now bucket key version) }
+{
+    let hold = status_of(alloc, raw.body.as_slice(), "ON", "OFF")?;
+    Ok(Request::PutHold {
+        bucket,
+        key,
+        version,
+        hold,
+    })
+}
+
+/// What a row asks of a version, or of the latest where none is named.
+fn version_asked(
+    alloc: Global,
+    raw: &RawRequest,
+    bucket: BucketName,
+    key: Key,
+    version: Option<VersionId>,
+    route: Route,
+) -> Result<Request, Problem>
+    ensures { Gives result (version_asked raw.now bucket key version route) }
+{
+    match route {
+        Route::GetObject => Ok(Request::GetObject {
+            bucket,
+            key,
+            version,
+        }),
+        Route::DeleteObject | Route::DeleteVersion => Ok(Request::DeleteObject {
+            bucket,
+            key,
+            version,
+        }),
+        Route::PutTags => tags_request(alloc, raw, bucket, key, version),
+        Route::GetTags => Ok(Request::GetTags {
+            bucket,
+            key,
+            version,
+        }),
+        Route::DeleteTags => Ok(Request::PutTags {
+            bucket,
+            key,
+            version,
+            tags: TagSet::none(alloc),
+            gone: true,
+        }),
+        Route::PutHold => hold_request(alloc, raw, bucket, key, version),
+        Route::GetHold => Ok(Request::GetHold {
+            bucket,
+            key,
+            version,
+        }),
+        _ => Err(Problem::UnknownQuery),
     }
 }
 
-fn creates_bucket(raw: &RawRequest) -> bool
-    ensures { result ≡ creates_bucket raw.now }
+fn is_put(route: Route) -> bool
+    ensures { result ≡ is_put route }
 {
-    !has_query(raw.target.as_slice())
-        && is_method(raw, "PUT")
-        && !has_line(raw, "x-amz-bucket-object-lock-enabled")
+    matches!(route, Route::PutObject)
 }
 
-fn puts_object(raw: &RawRequest) -> bool
-    ensures { result ≡ puts_object raw.now }
+/// What a row asks of an object.
+fn object_asked(
+    alloc: Global,
+    raw: &RawRequest,
+    words: &Query,
+    bucket: BucketName,
+    key: Key,
+    route: Route,
+) -> Result<Request, Problem>
+    ensures { Gives result (object_asked raw.now words.now bucket key route) }
 {
-    !has_query(raw.target.as_slice())
-        && is_method(raw, "PUT")
-        && !has_line(raw, "x-amz-tagging")
-        && !has_line(raw, "x-amz-object-lock-legal-hold")
-        && !has_line(raw, "x-amz-storage-class")
-}
-
-fn gets_object(raw: &RawRequest) -> bool
-    ensures { result ≡ gets_object raw.now }
-{
-    !has_query(raw.target.as_slice()) && (is_method(raw, "GET") || is_head(raw))
-}
-
-fn deletes(raw: &RawRequest) -> bool
-    ensures { result ≡ deletes raw.now }
-{
-    !has_query(raw.target.as_slice()) && is_method(raw, "DELETE")
-}
-
-fn heads_bucket(raw: &RawRequest) -> bool
-    ensures { result ≡ heads_bucket raw.now }
-{
-    !has_query(raw.target.as_slice()) && is_head(raw)
-}
-
-fn bucket_asked(raw: &RawRequest, name: BucketName) -> Result<Request, Problem>
-    ensures { Gives result (bucket_asked raw.now name) }
-{
-    if heads_bucket(raw) {
-        return Ok(Request::HeadBucket { name });
+    if is_put(route) {
+        return put_request(alloc, raw, bucket, key);
     }
-    if deletes(raw) {
-        return Ok(Request::DeleteBucket { name });
-    }
-    Err(Problem::UnknownQuery)
+    let version = version_of(words)?;
+    version_asked(alloc, raw, bucket, key, version, route)
 }
 
 /// What is asked of a bucket.
@@ -126,56 +215,8 @@ fn bucket_request(alloc: Global, raw: &RawRequest, bytes: &[u8]) -> Result<Reque
     ensures { Gives result (bucket_request raw.now bytes.now) }
 {
     let name = bucket_named(alloc, bytes)?;
-    if !creates_bucket(raw) {
-        return bucket_asked(raw, name);
-    }
-    let region = region_of(alloc, raw.body.as_slice())?;
-    Ok(Request::CreateBucket {
-        name,
-        region,
-        locked: false,
-    })
-}
-
-fn object_read(raw: &RawRequest, bucket: BucketName, key: Key) -> Result<Request, Problem>
-    ensures { Gives result (object_read raw.now bucket key) }
-{
-    if gets_object(raw) {
-        return Ok(Request::GetObject {
-            bucket,
-            key,
-            version: None,
-        });
-    }
-    if deletes(raw) {
-        return Ok(Request::DeleteObject {
-            bucket,
-            key,
-            version: None,
-        });
-    }
-    Err(Problem::UnknownQuery)
-}
-
-fn object_asked(
-    alloc: Global,
-    raw: &RawRequest,
-    bucket: BucketName,
-    key: Key,
-) -> Result<Request, Problem>
-    ensures { Gives result (object_asked raw.now bucket key) }
-{
-    if puts_object(raw) {
-        return Ok(Request::PutObject {
-            bucket,
-            key,
-            body: raw.body.clone()?,
-            tags: TagSet::none(alloc),
-            hold: false,
-            class: ClassName::standard(alloc)?,
-        });
-    }
-    object_read(raw, bucket, key)
+    let asked = asked_at(alloc, raw, &Place::Bucket(bytes))?;
+    bucket_asked(alloc, raw, &asked.words, name, asked.route)
 }
 
 /// What is asked of an object, its key being as it was written.
@@ -189,8 +230,34 @@ fn object_request(
     ensures { Gives result (object_request raw.now bytes.now written.now) }
 {
     let bucket = bucket_named(alloc, bytes)?;
-    let key = key_named(alloc, written)?;
-    object_asked(alloc, raw, bucket, key)
+    let key = key_written(alloc, written)?;
+    let asked = asked_at(alloc, raw, &Place::Object(bytes, written))?;
+    object_asked(alloc, raw, &asked.words, bucket, key, asked.route)
+}
+
+/// A row that is there and isn't built.
+fn other_request(alloc: Global, raw: &RawRequest, place: &Place) -> Result<Request, Problem>
+    ensures { Gives result (other_request raw.now (seen place.now)) }
+{
+    asked_at(alloc, raw, place)?;
+    Err(Problem::UnknownQuery)
+}
+
+fn request_at(alloc: Global, raw: &RawRequest, place: &Place) -> Result<Request, Problem>
+    ensures { Gives result (request_at raw.now (seen place.now)) }
+{
+    match place {
+        Place::Bucket(name) => bucket_request(alloc, raw, name),
+        Place::Object(name, key) => object_request(alloc, raw, name, key),
+        Place::Jobs
+        | Place::Job(_)
+        | Place::JobPriority(_)
+        | Place::JobStatus(_)
+        | Place::Copy
+        | Place::JobTurn
+        | Place::Work
+        | Place::Check => other_request(alloc, raw, place),
+    }
 }
 
 /// The request that a framed request is, or the first reason why it is none.
@@ -202,9 +269,7 @@ pub fn to_request(alloc: Global, raw: &RawRequest) -> Result<Request, Problem>
     ensures problems { IfErr result IsOfRequest }
 {
     match place_of(path_of(raw.target.as_slice())) {
-        Place::Nowhere => Err(Problem::NoSuchRoute),
-        Place::Special => Err(Problem::UnknownQuery),
-        Place::Bucket(name) => bucket_request(alloc, raw, name),
-        Place::Object(name, key) => object_request(alloc, raw, name, key),
+        Some(place) => request_at(alloc, raw, &place),
+        None => Err(Problem::NoSuchRoute),
     }
 }

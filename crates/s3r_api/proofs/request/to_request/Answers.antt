@@ -1,14 +1,9 @@
-use Rattle.s3r_api.proofs.Requests.{told-bucket, told-object, fits, problems}
+use Rattle.s3r_routes.specs.Places.{seen}
+use Rattle.s3r_api.proofs.Requests.{told-at, fits, problems}
 use Rattle.s3r_api.proofs.request.to_request.Goals as goal
 
-pub returns-in-Bucket-clause-fits : goal.returns-in-Bucket-clause-fits
-returns-in-Bucket-clause-fits c = fits c.args.raw.now _ _ c.bucket_request.ensures (told-bucket c.args.raw.now _)
+pub returns-in-Some-clause-fits : goal.returns-in-Some-clause-fits
+returns-in-Some-clause-fits c = fits c.args.raw.now _ _ c.request_at.ensures (told-at c.args.raw.now (seen c.in-Some.place))
 
-pub returns-in-Bucket-clause-problems : goal.returns-in-Bucket-clause-problems
-returns-in-Bucket-clause-problems c = problems c.args.raw.now _ _ c.bucket_request.ensures (told-bucket c.args.raw.now _)
-
-pub returns-in-Object-clause-fits : goal.returns-in-Object-clause-fits
-returns-in-Object-clause-fits c = fits c.args.raw.now _ _ c.object_request.ensures (told-object c.args.raw.now _ _)
-
-pub returns-in-Object-clause-problems : goal.returns-in-Object-clause-problems
-returns-in-Object-clause-problems c = problems c.args.raw.now _ _ c.object_request.ensures (told-object c.args.raw.now _ _)
+pub returns-in-Some-clause-problems : goal.returns-in-Some-clause-problems
+returns-in-Some-clause-problems c = problems c.args.raw.now _ _ c.request_at.ensures (told-at c.args.raw.now (seen c.in-Some.place))

@@ -1,7 +1,7 @@
 use Rattle.std.proofs.Common.{◌+◌, ◌∙◌, ap, Some, List, ℕ, Option}
 use Rattle.std.proofs.lemmas.List.{take_rest}
-use Rattle.s3r_api.specs.Target.{cut_at}
-use Rattle.s3r_api.proofs.target.cut.Goals as goal
+use Rattle.s3r_routes.specs.Target.{cut_at}
+use Rattle.s3r_routes.proofs.target.cut.Goals as goal
 
 pub returns-in-Some : goal.returns-in-Some
 returns-in-Some c =

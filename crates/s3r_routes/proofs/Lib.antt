@@ -1,0 +1,5 @@
+pub mod Texts
+pub mod Ids
+pub mod Decimals
+pub mod RouteExamples
+pub mod Limits

@@ -1,0 +1,9 @@
+pub mod Faults
+pub mod Target
+pub mod Places
+pub mod Words
+pub mod Query
+pub mod Rows
+pub mod Names
+pub mod Numbers
+pub mod Values
