@@ -1,0 +1,25 @@
+//! Replication rules: a bucket's configuration read, printed and chosen from.
+#![tactic(auto)]
+
+mod buckets;
+mod choice;
+mod config;
+mod draft;
+mod fault;
+mod lawful;
+mod laws;
+mod printing;
+mod reading;
+mod rule;
+
+pub use buckets::destinations;
+pub use choice::{choice_marker, choice_meta, choice_put, matches};
+pub use config::Config;
+pub use draft::{Destination, Draft, Filter};
+pub use fault::{ConfigFault, Kind};
+pub use laws::one_rule_decides;
+pub use reading::rule_from;
+pub use rule::Rule;
+
+#[cfg(test)]
+mod tests;
