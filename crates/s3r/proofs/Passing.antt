@@ -110,7 +110,7 @@ passes_happens n events a b silent p = record {
 -- ---- an answer was put out, or a front of it
 
 brings_puts : (n : ℕ) (bytes : List ℕ) (a b : Image) → Puts bytes a b → Brings n (answered bytes ∷ []) a b
-brings_puts n bytes a b put = record { volume = λ r lt h stands. (h, subst (λ (l : List ℕ). StandsFor r h l) (sym (put.volumes r)) stands, refl); output = put.output }
+brings_puts n bytes a b put = record { volume = λ r lt h stands. (h, subst (λ (l : List ℕ). StandsFor n r h l) (sym (put.volumes r)) stands, refl); output = put.output }
 
 take_parts : (k count : ℕ) (l : List ℕ) → k ≤ count → take k l ++ drop k (take count l) ≡ take count l
 take_parts k count l le =

@@ -18,16 +18,16 @@ use Rattle.s3r.specs.Serving.{Serves, IsServing, Limits}
 use Rattle.s3r.proofs.Passing.{passes_none, passes_then, keeps_all}
 
 -- before the first request
-unread : (r : ℕ) (o : Option Held) (w : Outside) → o ≡ None → IsHeld [] r o w
-unread r None w e = refl
-unread r (Some held) w e = absurd cc
+unread : (n r : ℕ) (o : Option Held) (w : Outside) → o ≡ None → IsHeld n [] r o w
+unread n r None w e = refl
+unread n r (Some held) w e = absurd cc
 
 pub serving_none : (n : ℕ) (room : ℕ → ℕ) (stores : List Store) (w : Outside) (a : Counts) → IsFresh stores → IsServing n room [] w.input stores w w a a
 serving_none n room stores w a fresh = record {
   right = tt;
   input = refl;
   passes = passes_none n w w (keeps_all w);
-  keeps = λ r s get. unread r s.held w (fresh r s get);
+  keeps = λ r s get. unread s.regions r s.held w (fresh r s get);
   faults = λ v. omega arith;
 }
 

@@ -97,7 +97,7 @@ module _ (before : Events) (room : ℕ → ℕ) (raw : RawRequest) (result : Res
     step = did.events;
     is = (request, is, did.turn, did.damage);
     reply = reply;
-    passes = passes_happens (length a) did.events old new (turn_silent (AsRead old) (length a) room before request answer did.events did.turn) did.happens;
+    passes = passes_happens (length a) did.events old new (turn_silent (AsRead (length a) old) (length a) room before request answer did.events did.turn) did.happens;
     keeps = did.keeps;
     input = did.happens.input;
     faults = λ v. fails_by (length a) v answer c d falls cause;
@@ -118,12 +118,12 @@ replies_problem before room raw result a w c problem fails keeps reply = record 
 
 -- ---- a step, answered
 
-held_answered : (text : List ℕ) (events : Events) (r : ℕ) (o : Option Held) (w : Outside) → IsHeld events r o w → IsHeld (answered text ∷ events) r o w
-held_answered text events r None w is = is
-held_answered text events r (Some held) w is = is
+held_answered : (n : ℕ) (text : List ℕ) (events : Events) (r : ℕ) (o : Option Held) (w : Outside) → IsHeld n events r o w → IsHeld n (answered text ∷ events) r o w
+held_answered n text events r None w is = is
+held_answered n text events r (Some held) w is = is
 
 pub keeps_answered : (text : List ℕ) (events : Events) (stores : List Store) (w : Outside) → Keeps events stores w → Keeps (answered text ∷ events) stores w
-keeps_answered text events stores w keeps r s get = held_answered text events r s.held w (keeps r s get)
+keeps_answered text events stores w keeps r s get = held_answered s.regions text events r s.held w (keeps r s get)
 
 module _ (n : ℕ) (room : ℕ → ℕ) (before : Events) (raw : RawRequest) (reply : Result (Vec ℕ Global) AllocError) (stores : List Store) (old mid new : Outside) (a b d : Counts) (falls : NoneFalls b d) where
   pub answers_one : (did : Replies n room before raw reply stores old mid a b) (result : Result (Unit {0}) Stop) → Says (answer_to raw did.outcome) result mid new → AnswersOne n room before raw result stores old new a d

@@ -14,7 +14,7 @@ output_of (answered text ∷ events) = output_of events ++ text
 
 -- Each volume below n stands for a history to which the events lead, and their answers are out.
 pub record Brings (n : ℕ) (events : Events) (old new : Image) : Type 0 where
-  pub volume : (r : ℕ) → r < n → Advances events r (old.volume r) (new.volume r)
+  pub volume : (r : ℕ) → r < n → Advances n events r (old.volume r) (new.volume r)
   pub output : new.output ≡ old.output ++ output_of events
 
 -- what may be out of what comes next: nothing, or a front of its answer

@@ -94,7 +94,7 @@ pub record Served (n : ℕ) (room : ℕ → ℕ) (result : Result Ending Stop) (
 
 -- each volume below n stands for a lawful history
 abbrev pub IsSoundImage : ℕ → Image → Type 0
-IsSoundImage n c = (r : ℕ) → r < n → (h : History) × StandsFor r h (c.volume r)
+IsSoundImage n c = (r : ℕ) → r < n → (h : History) × StandsFor n r h (c.volume r)
 
 -- so it is in each image, and in what is read
 pub record IsSound (n : ℕ) (w : Outside) : Type 0 where

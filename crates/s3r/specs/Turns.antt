@@ -35,7 +35,7 @@ answer_to raw (Err problem) = problem_text problem (is_head raw) raw.last
 -- The request asks for this, and the desk made its step, with the volumes as they are seen; or it asks for nothing.
 abbrev pub IsStepOf : ℕ → (ℕ → ℕ) → Events → Image → Result Request Problem → Outcome → Events → Type 0
 IsStepOf n room before seen asked (Ok result) step =
-    (request : Request) × (asked ≡ Ok request) × IsTurn (λ r h. StandsFor r h (seen.volume r)) n room before request result step × IsDamage seen result
+    (request : Request) × (asked ≡ Ok request) × IsTurn (λ r h. StandsFor n r h (seen.volume r)) n room before request result step × IsDamage n seen result
 IsStepOf n room before seen asked (Err problem) step = Fails problem asked × (step ≡ [])
 
 -- The turn is that of its request, behind these events.

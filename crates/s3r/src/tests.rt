@@ -37,19 +37,11 @@ fn done(alloc: Global, line: &str) -> Result<String, AllocError> {
     format!(in alloc; "HTTP/1.1 200 OK\r\nContent-Length: 0\r\n{line}\r\n")
 }
 
-// An answer of an error.
-fn refused(alloc: Global, status: &str, json: &str) -> Result<String, AllocError> {
+// An answer whose body is JSON.
+fn told(alloc: Global, status: &str, json: &str) -> Result<String, AllocError> {
     let length = json.len();
     format!(in alloc;
         "HTTP/1.1 {status}\r\nContent-Length: {length}\r\nContent-Type: application/json\r\n\r\n{json}"
-    )
-}
-
-// A listing.
-fn listed(alloc: Global, json: &str) -> Result<String, AllocError> {
-    let length = json.len();
-    format!(in alloc;
-        "HTTP/1.1 200 OK\r\nContent-Length: {length}\r\nContent-Type: application/json\r\n\r\n{json}"
     )
 }
 
@@ -98,25 +90,93 @@ fn count(bytes: &[u8], text: &[u8]) -> usize {
     found
 }
 
-// Serves an input of one region in any pieces.
-fn expect_in_pieces(rt: &impl Abort, alloc: Global, input: &str, output: &str) -> Result<(), Fail> {
-    for piece in [1, 7, 100_000] {
-        let mut world = world_of(alloc, 1, ROOM, input)?;
-        world.piece(piece);
-        expect(rt, alloc, &mut world, 0, output)?;
-    }
-    Ok(())
+// A row of a table: a request's method, target, header line and body, and its answer's status, lines and body. The tables
+// are text, since a long list of tuples is slow to prove.
+#[derive(Clone, Copy)]
+struct Row<'a> {
+    method: &'a str,
+    target: &'a str,
+    line: &'a str,
+    body: &'a str,
+    status: &'a str,
+    lines: &'a str,
+    json: &'a str,
 }
 
-// Requests in turn, each with its answer.
-fn expect_rows(rt: &impl Abort, alloc: Global, rows: &[(String, String)]) -> Result<(), Fail> {
+fn row_of(text: &str) -> Option<Row<'_>> {
+    let mut cells = text.split(" | ");
+    Some(Row {
+        method: cells.next()?,
+        target: cells.next()?,
+        line: cells.next()?,
+        body: cells.next()?,
+        status: cells.next()?,
+        lines: cells.next()?,
+        json: cells.next()?,
+    })
+}
+
+// Header lines, which stand behind one another in a cell.
+fn lines_of(alloc: Global, cell: &str) -> Result<String, AllocError> {
+    let mut lines = String::new(alloc);
+    if cell.is_empty() {
+        return Ok(lines);
+    }
+    for line in cell.split("; ") {
+        lines.push_str(line)?;
+        lines.push_str("\r\n")?;
+    }
+    Ok(lines)
+}
+
+fn request_of(alloc: Global, row: &Row<'_>) -> Result<String, AllocError> {
+    let lines = lines_of(alloc, row.line)?;
+    request(alloc, row.method, row.target, lines.as_str(), row.body)
+}
+
+fn answer_of(alloc: Global, row: &Row<'_>) -> Result<String, AllocError> {
+    let status = row.status;
+    let lines = lines_of(alloc, row.lines)?;
+    let length = row.json.len();
+    let length = if status == "204 No Content" {
+        String::new(alloc)
+    } else {
+        format!(in alloc; "Content-Length: {length}\r\n")?
+    };
+    let kind = if row.json.starts_with('{') {
+        "Content-Type: application/json\r\n"
+    } else {
+        ""
+    };
+    let body = if row.method == "HEAD" { "" } else { row.json };
+    format!(in alloc; "HTTP/1.1 {status}\r\n{length}{kind}{lines}\r\n{body}")
+}
+
+// The requests of a table in turn, and their answers.
+fn texts_of(alloc: Global, table: &str) -> Result<(String, String), Fail> {
     let mut input = String::new(alloc);
     let mut output = String::new(alloc);
-    for (asked, answer) in rows {
-        input.push_str(asked.as_str())?;
-        output.push_str(answer.as_str())?;
+    for line in table.lines() {
+        let Some(row) = row_of(line) else {
+            return Err(Fail::new("no row"));
+        };
+        input.push_str(request_of(alloc, &row)?.as_str())?;
+        output.push_str(answer_of(alloc, &row)?.as_str())?;
     }
-    expect_in_pieces(rt, alloc, input.as_str(), output.as_str())
+    Ok((input, output))
+}
+
+// A table's requests over so many regions, in any pieces.
+fn expect_rows(rt: &impl Abort, alloc: Global, volumes: u32, table: &str) -> Result<(), Fail>
+    requires { volumes ≤ 8 }
+{
+    let (input, output) = texts_of(alloc, table)?;
+    for piece in [1, 7, 100_000] {
+        let mut world = world_of(alloc, volumes, ROOM, input.as_str())?;
+        world.piece(piece);
+        expect(rt, alloc, &mut world, 0, output.as_str())?;
+    }
+    Ok(())
 }
 
 #[test]
@@ -133,145 +193,143 @@ fn words_of_another_program(rt: HostRuntime) -> Result<(), Fail> {
     Ok(())
 }
 
-// Requests and their answers, over one region, with the input in pieces.
+const PUT_AND_GET: &str = "\
+PUT | /abc |  |  | 200 OK |  | 
+PUT | /abc/k |  | hi | 200 OK | x-amz-version-id: 0-0000000000000002 | 
+HEAD | /abc/k |  |  | 200 OK | x-amz-version-id: 0-0000000000000002 | hi
+PUT | /abc |  |  | 409 Conflict |  | {\"Code\":\"BucketAlreadyExists\"}
+PUT | /a..b |  |  | 400 Bad Request |  | {\"Code\":\"InvalidBucketName\"}
+GET | /abc/x |  |  | 404 Not Found |  | {\"Code\":\"NoSuchKey\"}
+GET | /abd/x |  |  | 404 Not Found |  | {\"Code\":\"NoSuchBucket\"}
+GET | /abc/k | Connection: close |  | 200 OK | x-amz-version-id: 0-0000000000000002; Connection: close | hi";
+
+// Nothing behind a last request is read.
 #[test]
 fn put_and_get(rt: HostRuntime) -> Result<(), Fail> {
     let alloc = rt.alloc();
+    let (input, output) = texts_of(alloc, PUT_AND_GET)?;
+    let input = format!(in alloc; "{input}x")?;
+    for piece in [1, 7, 100_000] {
+        let mut world = world_of(alloc, 1, ROOM, input.as_str())?;
+        world.piece(piece);
+        expect(&rt, alloc, &mut world, 0, output.as_str())?;
+    }
+    Ok(())
+}
+
+// The longest key, and one that is longer.
+#[test]
+fn longest_keys(rt: HostRuntime) -> Result<(), Fail> {
+    let alloc = rt.alloc();
     let long = "k".repeat(alloc, 1024)?;
-    let id = "x-amz-version-id: 0-0000000000000002\r\n";
-    let close =
-        "HTTP/1.1 200 OK\r\nContent-Length: 2\r\nx-amz-version-id: 0-0000000000000002\r\nConnection: close\r\n\r\nhi";
-    let rows = [
-        (put(alloc, "/abc", "")?, done(alloc, "")?),
-        (put(alloc, "/abc/k", "hi")?, done(alloc, id)?),
-        (
-            request(alloc, "HEAD", "/abc/k", "", "")?,
-            format!(in alloc; "HTTP/1.1 200 OK\r\nContent-Length: 2\r\n{id}\r\n")?,
-        ),
-        (
-            put(alloc, "/abc", "")?,
-            refused(alloc, "409 Conflict", "{\"Code\":\"BucketAlreadyExists\"}")?,
-        ),
-        (
-            put(alloc, "/a..b", "")?,
-            refused(alloc, "400 Bad Request", "{\"Code\":\"InvalidBucketName\"}")?,
-        ),
-        (
-            put(alloc, format!(in alloc; "/abc/{long}")?.as_str(), "")?,
-            done(alloc, "x-amz-version-id: 0-0000000000000003\r\n")?,
-        ),
-        (
-            put(alloc, format!(in alloc; "/abc/{long}k")?.as_str(), "")?,
-            refused(alloc, "400 Bad Request", "{\"Code\":\"KeyTooLongError\"}")?,
-        ),
-        (
-            get(alloc, "/abc/x")?,
-            refused(alloc, "404 Not Found", "{\"Code\":\"NoSuchKey\"}")?,
-        ),
-        (
-            get(alloc, "/abd/x")?,
-            refused(alloc, "404 Not Found", "{\"Code\":\"NoSuchBucket\"}")?,
-        ),
-        (
-            request(alloc, "GET", "/abc/k", "Connection: close\r\n", "")?,
-            String::from_str(alloc, close)?,
-        ),
-        // Bytes behind a last request aren't read.
-        (String::from_str(alloc, "x")?, String::new(alloc)),
-    ];
-    expect_rows(&rt, alloc, &rows)
+    let rows = format!(in alloc;
+        "PUT | /abc |  |  | 200 OK |  | \nPUT | /abc/{long} |  |  | 200 OK | x-amz-version-id: 0-0000000000000002 | \nPUT | /abc/{long}k |  |  | 400 Bad Request |  | {{\"Code\":\"KeyTooLongError\"}}"
+    )?;
+    expect_rows(&rt, alloc, 1, rows.as_str())
 }
 
 // A marker hides the version before it, and a bucket with either isn't deleted.
+const MARKERS: &str = "\
+HEAD | /abc |  |  | 404 Not Found |  | {\"Code\":\"NoSuchBucket\"}
+PUT | /abc |  |  | 200 OK |  | 
+PUT | /abc/k |  | hi | 200 OK | x-amz-version-id: 0-0000000000000002 | 
+DELETE | /abc/k |  |  | 204 No Content | x-amz-delete-marker: true; x-amz-version-id: 0-0000000000000003 | 
+GET | /abc/k |  |  | 404 Not Found | x-amz-delete-marker: true; x-amz-version-id: 0-0000000000000003 | {\"Code\":\"NoSuchKey\"}
+DELETE | /abc |  |  | 409 Conflict |  | {\"Code\":\"BucketNotEmpty\"}
+PUT | /xyz |  |  | 200 OK |  | 
+HEAD | /xyz |  |  | 200 OK |  | 
+DELETE | /xyz |  |  | 204 No Content |  | 
+DELETE | /xyz/k |  |  | 404 Not Found |  | {\"Code\":\"NoSuchBucket\"}";
+
 #[test]
 fn markers_and_deletion(rt: HostRuntime) -> Result<(), Fail> {
-    let alloc = rt.alloc();
-    let marker = "x-amz-delete-marker: true\r\nx-amz-version-id: 0-0000000000000003\r\n";
-    let rows = [
-        (
-            request(alloc, "HEAD", "/abc", "", "")?,
-            String::from_str(
-                alloc,
-                "HTTP/1.1 404 Not Found\r\nContent-Length: 23\r\nContent-Type: application/json\r\n\r\n",
-            )?,
-        ),
-        (put(alloc, "/abc", "")?, done(alloc, "")?),
-        (
-            put(alloc, "/abc/k", "hi")?,
-            done(alloc, "x-amz-version-id: 0-0000000000000002\r\n")?,
-        ),
-        (
-            request(alloc, "DELETE", "/abc/k", "", "")?,
-            format!(in alloc; "HTTP/1.1 204 No Content\r\n{marker}\r\n")?,
-        ),
-        (
-            get(alloc, "/abc/k")?,
-            format!(in alloc;
-                "HTTP/1.1 404 Not Found\r\nContent-Length: 20\r\nContent-Type: application/json\r\n{marker}\r\n{{\"Code\":\"NoSuchKey\"}}"
-            )?,
-        ),
-        (
-            request(alloc, "DELETE", "/abc", "", "")?,
-            refused(alloc, "409 Conflict", "{\"Code\":\"BucketNotEmpty\"}")?,
-        ),
-        (put(alloc, "/xyz", "")?, done(alloc, "")?),
-        (request(alloc, "HEAD", "/xyz", "", "")?, done(alloc, "")?),
-        (
-            request(alloc, "DELETE", "/xyz", "", "")?,
-            String::from_str(alloc, "HTTP/1.1 204 No Content\r\n\r\n")?,
-        ),
-        (
-            request(alloc, "DELETE", "/xyz/k", "", "")?,
-            refused(alloc, "404 Not Found", "{\"Code\":\"NoSuchBucket\"}")?,
-        ),
-    ];
-    expect_rows(&rt, alloc, &rows)
+    expect_rows(&rt, rt.alloc(), 1, MARKERS)
 }
 
 // Under Object Lock a version that is held stays until its hold is OFF.
+const HOLDS: &str = "\
+PUT | /lkk | x-amz-bucket-object-lock-enabled: true |  | 200 OK |  | 
+PUT | /lkk/k | x-amz-object-lock-legal-hold: ON | hi | 200 OK | x-amz-version-id: 0-0000000000000002 | 
+DELETE | /lkk/k?versionId=0-0000000000000002 |  |  | 403 Forbidden |  | {\"Code\":\"AccessDenied\"}
+DELETE | /lkk/k |  |  | 204 No Content | x-amz-delete-marker: true; x-amz-version-id: 0-0000000000000003 | 
+PUT | /lkk/k?legal-hold&versionId=0-0000000000000002 |  | {\"Status\":\"OFF\"} | 200 OK | x-amz-version-id: 0-0000000000000002 | 
+DELETE | /lkk/k?versionId=0-0000000000000002 |  |  | 204 No Content | x-amz-version-id: 0-0000000000000002 | 
+GET | /lkk?versions&max-keys=1000&prefix=k |  |  | 200 OK |  | {\"DeleteMarkers\":[{\"IsLatest\":true,\"Key\":\"k\",\"VersionId\":\"0-0000000000000003\"}],\"IsTruncated\":false,\"Versions\":[]}";
+
 #[test]
 fn legal_holds(rt: HostRuntime) -> Result<(), Fail> {
+    expect_rows(&rt, rt.alloc(), 1, HOLDS)
+}
+
+// Two buckets in two regions, and the first is copied to the second.
+const SETUP: &str = "\
+PUT | /src |  |  | 200 OK |  | 
+PUT | /dst |  | {\"LocationConstraint\":\"r1\"} | 200 OK |  | 
+PUT | /src?replication |  | {\"Rules\":[{\"Status\":\"Enabled\",\"Destination\":{\"Bucket\":\"arn:aws:s3:::dst\"}}]} | 200 OK |  | ";
+
+// A bucket's configuration: taken, refused for what is wrong first, printed, and taken away. A bucket's own state is looked
+// at before the rules.
+const REPLICATION: &str = "\
+PUT | /src |  |  | 200 OK |  | 
+GET | /src?replication |  |  | 404 Not Found |  | {\"Code\":\"ReplicationConfigurationNotFoundError\"}
+DELETE | /src?replication |  |  | 204 No Content |  | 
+PUT | /src?replication |  | {\"Rules\":[{\"Status\":\"Enabled\",\"Destination\":{\"Bucket\":\"arn:aws:s3:::dst\"}}]} | 400 Bad Request |  | {\"Code\":\"InvalidRequest\",\"Kind\":\"NoDestination\",\"Rule\":1}
+PUT | /dst |  | {\"LocationConstraint\":\"r1\"} | 200 OK |  | 
+PUT | /dst?versioning |  | {\"Status\":\"Suspended\"} | 200 OK |  | 
+PUT | /src?replication |  | {\"Rules\":[{\"Status\":\"Enabled\",\"Destination\":{\"Bucket\":\"arn:aws:s3:::dst\"}}]} | 400 Bad Request |  | {\"Code\":\"InvalidRequest\",\"Kind\":\"DestinationNotVersioned\",\"Rule\":1}
+PUT | /dst?replication |  | {\"Rules\":[{\"Status\":\"Enabled\",\"Destination\":{\"Bucket\":\"arn:aws:s3:::dst\"}}]} | 409 Conflict |  | {\"Code\":\"InvalidBucketState\"}
+PUT | /dst?versioning |  | {\"Status\":\"Enabled\"} | 200 OK |  | 
+PUT | /dst?replication |  | {\"Rules\":[{\"Status\":\"Enabled\",\"Destination\":{\"Bucket\":\"arn:aws:s3:::dst\"}}]} | 400 Bad Request |  | {\"Code\":\"InvalidRequest\",\"Kind\":\"SameBucket\",\"Rule\":1}
+PUT | /src?replication |  | {\"Rules\":[{\"Status\":\"Enabled\",\"Destination\":{\"Bucket\":\"arn:aws:s3:::dst\"}}]} | 200 OK |  | 
+GET | /src?replication |  |  | 200 OK |  | {\"Rules\":[{\"DeleteMarkerReplication\":{\"Status\":\"Disabled\"},\"Destination\":{\"Bucket\":\"arn:aws:s3:::dst\"},\"Filter\":{\"Prefix\":\"\"},\"ID\":\"rule-1\",\"Priority\":0,\"Status\":\"Enabled\"}]}
+PUT | /src?versioning |  | {\"Status\":\"Suspended\"} | 409 Conflict |  | {\"Code\":\"InvalidBucketState\"}
+PUT | /src?replication |  | {\"Rules\":[{\"Status\":\"Enabled\",\"Filter\":{\"Tag\":{\"Key\":\"a\",\"Value\":\"1\"}},\"DeleteMarkerReplication\":{\"Status\":\"Enabled\"},\"Destination\":{\"Bucket\":\"arn:aws:s3:::dst\"}}]} | 400 Bad Request |  | {\"Code\":\"InvalidRequest\",\"Kind\":\"TagWithMarkers\",\"Rule\":1}
+PUT | /src?replication |  | {\"Rules\":[{\"Status\":\"Enabled\",\"Destination\":{\"Bucket\":\"dst\"}}]} | 400 Bad Request |  | {\"Code\":\"InvalidRequest\",\"Kind\":\"BadArn\",\"Rule\":1}
+PUT | /src?replication |  | {\"Rules\":{}} | 400 Bad Request |  | {\"Code\":\"MalformedJSON\"}
+DELETE | /src?replication |  |  | 204 No Content |  | 
+GET | /src?replication |  |  | 404 Not Found |  | {\"Code\":\"ReplicationConfigurationNotFoundError\"}
+PUT | /src?versioning |  | {\"Status\":\"Suspended\"} | 200 OK |  | 
+PUT | /xyz?replication |  | {\"Rules\":[{\"Status\":\"Enabled\",\"Destination\":{\"Bucket\":\"arn:aws:s3:::dst\"}}]} | 404 Not Found |  | {\"Code\":\"NoSuchBucket\"}";
+
+#[test]
+fn replication_of_a_bucket(rt: HostRuntime) -> Result<(), Fail> {
+    expect_rows(&rt, rt.alloc(), 2, REPLICATION)
+}
+
+// A volume whose configuration names a region that isn't there is damaged at that record.
+#[test]
+fn a_volume_of_more_regions(rt: HostRuntime) -> Result<(), Fail> {
     let alloc = rt.alloc();
-    let lock = "x-amz-bucket-object-lock-enabled: true\r\n";
-    let held = "x-amz-object-lock-legal-hold: ON\r\n";
-    let second = "x-amz-version-id: 0-0000000000000002\r\n";
-    let version = "/lkk/k?versionId=0-0000000000000002";
-    let marker = "x-amz-delete-marker: true\r\nx-amz-version-id: 0-0000000000000003\r\n";
-    let rows = [
-        (request(alloc, "PUT", "/lkk", lock, "")?, done(alloc, "")?),
-        (
-            request(alloc, "PUT", "/lkk/k", held, "hi")?,
-            done(alloc, second)?,
-        ),
-        (
-            request(alloc, "DELETE", version, "", "")?,
-            refused(alloc, "403 Forbidden", "{\"Code\":\"AccessDenied\"}")?,
-        ),
-        (
-            request(alloc, "DELETE", "/lkk/k", "", "")?,
-            format!(in alloc; "HTTP/1.1 204 No Content\r\n{marker}\r\n")?,
-        ),
-        (
-            put(
-                alloc,
-                "/lkk/k?legal-hold&versionId=0-0000000000000002",
-                "{\"Status\":\"OFF\"}",
-            )?,
-            done(alloc, second)?,
-        ),
-        (
-            request(alloc, "DELETE", version, "", "")?,
-            format!(in alloc; "HTTP/1.1 204 No Content\r\n{second}\r\n")?,
-        ),
-        (
-            get(alloc, "/lkk?versions&max-keys=1000&prefix=k")?,
-            listed(
-                alloc,
-                "{\"DeleteMarkers\":[{\"IsLatest\":true,\"Key\":\"k\",\"VersionId\":\"0-0000000000000003\"}],\"IsTruncated\":false,\"Versions\":[]}",
-            )?,
-        ),
-    ];
-    expect_rows(&rt, alloc, &rows)
+    let (input, output) = texts_of(alloc, SETUP)?;
+    let mut world = world_of(alloc, 2, ROOM, input.as_str())?;
+    expect(&rt, alloc, &mut world, 0, output.as_str())?;
+    assert_eq!(rt; world.volumes(), 2);
+    let bytes = world.volume(0).to_vec(alloc)?;
+    let mut fewer = world_of(alloc, 1, ROOM, get(alloc, "/src?versioning")?.as_str())?;
+    assert!(rt; bytes.len() as u64 <= fewer.room(0));
+    fewer.with_volume(0, bytes)?;
+    let damaged = told(
+        alloc,
+        "500 Internal Server Error",
+        "{\"Code\":\"Damaged\",\"Offset\":28,\"Region\":\"r0\"}",
+    )?;
+    expect(&rt, alloc, &mut fewer, 0, damaged.as_str())
+}
+
+// A configuration whose body has the greatest length.
+#[test]
+fn the_longest_configuration(rt: HostRuntime) -> Result<(), Fail> {
+    let alloc = rt.alloc();
+    let rules =
+        "{\"Rules\":[{\"Status\":\"Enabled\",\"Destination\":{\"Bucket\":\"arn:aws:s3:::dst\"}}]}";
+    let spaces = " ".repeat(alloc, 4_194_304usize.saturating_sub(rules.len()))?;
+    let body = format!(in alloc; "{rules}{spaces}")?;
+    let (input, output) = texts_of(alloc, SETUP)?;
+    let again = put(alloc, "/src?replication", body.as_str())?;
+    let input = format!(in alloc; "{input}{again}")?;
+    let output = format!(in alloc; "{output}{}", done(alloc, "")?)?;
+    let mut world = world_of(alloc, 2, ROOM, input.as_str())?;
+    expect(&rt, alloc, &mut world, 0, output.as_str())
 }
 
 // So many puts, and then these pages of their listing.
@@ -384,7 +442,7 @@ fn eight_regions(rt: HostRuntime) -> Result<(), Fail> {
         input.push_str(put(alloc, key.as_str(), "")?.as_str())?;
         input.push_str(get(alloc, key.as_str())?.as_str())?;
         let made = done(alloc, "")?;
-        let again = refused(alloc, "409 Conflict", "{\"Code\":\"BucketAlreadyExists\"}")?;
+        let again = told(alloc, "409 Conflict", "{\"Code\":\"BucketAlreadyExists\"}")?;
         let written = done(alloc, id.as_str())?;
         output.push_str(format!(in alloc; "{made}{again}{written}{written}")?.as_str())?;
     }
@@ -399,7 +457,7 @@ fn faults_of_volumes(rt: HostRuntime) -> Result<(), Fail> {
     let one = put(alloc, "/abc", "")?;
     let two = format!(in alloc; "{one}{one}")?;
     let made = done(alloc, "")?;
-    let failed = refused(
+    let failed = told(
         alloc,
         "503 Service Unavailable",
         "{\"Code\":\"VolumeFault\",\"Region\":\"r1\"}",
@@ -418,7 +476,7 @@ fn faults_of_volumes(rt: HostRuntime) -> Result<(), Fail> {
     assert_eq!(rt; world.volume(1).len(), 0);
 
     let key = put(alloc, "/abc/k", "hello")?;
-    let full = refused(
+    let full = told(
         alloc,
         "507 Insufficient Storage",
         "{\"Code\":\"VolumeFull\",\"Region\":\"r0\"}",
@@ -438,7 +496,7 @@ fn faults_of_volumes(rt: HostRuntime) -> Result<(), Fail> {
     let bytes = b"\x01S3RVOL0\0\0\0\0\0\0\0\x01\x01\0\0\0\x07\0\0\x03abc\0\0".to_vec(alloc)?;
     assert!(rt; bytes.len() as u64 <= world.room(0));
     world.with_volume(0, bytes)?;
-    let damaged = refused(
+    let damaged = told(
         alloc,
         "500 Internal Server Error",
         "{\"Code\":\"Damaged\",\"Offset\":16,\"Region\":\"r0\"}",

@@ -13,6 +13,13 @@ use Rattle.s3r_names.specs.Class.{is_class_name}
 use Rattle.s3r_names.specs.Tags.{is_tag_list, is_tag_set, in_key_order}
 use Rattle.s3r_names.specs.Query.{query_tags}
 use Rattle.s3r_names.proofs.TagLaws.{in_key_order-set}
+use Rattle.s3r_rules.specs.declared.fault.ConfigFault.{ConfigFault}
+use Rattle.s3r_rules.specs.declared.fault.ConfigFault.TheVariants as config
+use Rattle.s3r_rules.specs.declared.rule.Rule.{Rule}
+use Rattle.s3r_rules.specs.Rules.{is_config}
+use Rattle.s3r_rules.specs.Reading.{config_body}
+use Rattle.s3r_rules.proofs.Growing.{body_lawful}
+use Rattle.s3r_record.specs.Spelling.{fits_record}
 use Rattle.s3r_http.specs.declared.message.RawRequest.{RawRequest}
 use Rattle.s3r_json.specs.declared.fault.BodyFault.{BodyFault}
 use Rattle.s3r_json.specs.declared.fault.BodyFault.TheVariants as body
@@ -33,14 +40,15 @@ use Rattle.s3r_routes.specs.Values.{given, limit_of, there, version_from, versio
 use Rattle.s3r_routes.proofs.Ids.{named-is}
 use Rattle.s3r_routes.proofs.Limits.{limit-least}
 use Rattle.s3r_desk.specs.declared.request.Request.{Request}
+use Rattle.s3r_desk.specs.declared.request.Request.TheVariants as request
 use Rattle.s3r_desk.specs.Steps.{IsRequest, IsNamed}
 use Rattle.s3r_api.specs.declared.problem.Problem.{Problem}
 use Rattle.s3r_api.specs.declared.problem.Problem.TheVariants as problem
 use Rattle.s3r_api.specs.Problems.{Gives, IsOfRequest}
-use Rattle.s3r_api.specs.Faults.{of_route, of_body, routed, from_body}
+use Rattle.s3r_api.specs.Faults.{of_route, of_body, of_config, routed, from_body, from_config}
 use Rattle.s3r_api.specs.Location.{location_in, region_of_text, region_of_value, region_of}
 use Rattle.s3r_api.specs.Lines.{first_line, lock_word, locked_by, tags_in, tags_by, hold_word, hold_by, class_in, class_by}
-use Rattle.s3r_api.specs.Request.{◌>>=◌, asked_at, limit_asked, id_behind, place_behind, list_request, bucket_asked, put_request, version_asked, is_put, object_asked, bucket_request, object_request, other_request, request_at}
+use Rattle.s3r_api.specs.Request.{◌>>=◌, asked_at, limit_asked, id_behind, place_behind, list_request, if_recorded, replication_request, bucket_asked, put_request, version_asked, is_put, object_asked, bucket_request, object_request, other_request, request_at}
 
 -- a result whose value has P, and whose reason is one of a framed request
 abbrev pub Told : {X : Type 0} → (X → Type 0) → Result X Problem → Type 0
@@ -214,6 +222,27 @@ told-create raw words name named =
 told-versioning : (raw : RawRequest) (words : List Pair) (name : List ℕ) → Named name → Told (Fits raw) (bucket_asked raw words name route.PutVersioning)
 told-versioning raw words name named = told-bind Any (Fits raw) (from_body (status_body (codes "Enabled") (codes "Suspended") raw.body)) _ (told-status _ _ raw.body) (λ enabled any short. named)
 
+-- a body's configuration is one
+abbrev Lawful : List Rule → Type 0
+Lawful rules = is_config rules ≡ true
+
+told-config : (r : Result (List Rule) ConfigFault) → IfOk r Lawful → Told Lawful (from_config r)
+told-config (Ok rules) h = h
+told-config (Err config.MalformedJson) h = tt
+told-config (Err (config.InvalidRequest rule kind)) h = tt
+told-config (Err config.OutOfMemory) h = tt
+
+told-recorded : (raw : RawRequest) (name : List ℕ) (rules : List Rule) → Named name → Lawful rules → Told (Fits raw) (if_recorded name rules)
+told-recorded raw name rules named lawful = go (fits_record name rules) refl
+  where
+    go : (b : Bool) → fits_record name rules ≡ b → Told (Fits raw) (if b then Ok (request.PutReplication name rules) else Err problem.ConfigurationTooLong)
+    go true is = λ short. (named, lawful, is)
+    go false is = tt
+
+told-replication : (raw : RawRequest) (name : List ℕ) → Named name → Told (Fits raw) (replication_request raw name)
+told-replication raw name named =
+    told-bind Lawful (Fits raw) (from_config (config_body raw.body)) _ (told-config (config_body raw.body) (body_lawful raw.body)) (λ rules lawful. told-recorded raw name rules named lawful)
+
 abbrev Least : ℕ → Type 0
 Least limit = 1 ≤ limit
 
@@ -243,6 +272,9 @@ told-bucket_asked raw words name route.HeadBucket named = λ short. tt
 told-bucket_asked raw words name route.DeleteBucket named = λ short. named
 told-bucket_asked raw words name route.PutVersioning named = told-versioning raw words name named
 told-bucket_asked raw words name route.GetVersioning named = λ short. tt
+told-bucket_asked raw words name route.PutReplication named = told-replication raw name named
+told-bucket_asked raw words name route.GetReplication named = λ short. tt
+told-bucket_asked raw words name route.DeleteReplication named = λ short. named
 told-bucket_asked raw words name route.ListVersions named = told-list raw words name
 told-bucket_asked raw words name other named = tt
 

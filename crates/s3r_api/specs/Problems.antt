@@ -3,7 +3,7 @@ use Rattle.std.specs.Prelude.{◌≡◌, Option, Some, None, Result, Ok, Err}
 use Rattle.s3r_http.specs.declared.message.HttpFault.{HttpFault}
 use Rattle.s3r_http.specs.declared.message.HttpFault.TheVariants as fault
 use Rattle.s3r_api.specs.declared.problem.Problem.{Problem}
-use Rattle.s3r_api.specs.declared.problem.Problem.TheVariants.{InvalidBucketName, KeyTooLong, InvalidKey, InvalidTag, InvalidVersionId, InvalidStorageClass, InvalidQuery, InvalidHold, MalformedJson, NoSuchRoute, UnknownQuery, WrongMethod, BadHead, HeadTooLong, BadLength, EntityTooLarge, NotImplemented, CutShort, OutOfMemory}
+use Rattle.s3r_api.specs.declared.problem.Problem.TheVariants.{InvalidBucketName, KeyTooLong, InvalidKey, InvalidTag, InvalidVersionId, InvalidStorageClass, InvalidQuery, InvalidHold, MalformedJson, InvalidRequest, ConfigurationTooLong, NoSuchRoute, UnknownQuery, WrongMethod, BadHead, HeadTooLong, BadLength, EntityTooLarge, NotImplemented, CutShort, OutOfMemory}
 
 -- What a call returned is what is asked for, unless memory ran out.
 abbrev pub Fails : {X : Type 0} → Problem → Result X Problem → Type 0
@@ -30,6 +30,8 @@ IsOfRequest InvalidStorageClass = Unit {0}
 IsOfRequest InvalidQuery = Unit {0}
 IsOfRequest InvalidHold = Unit {0}
 IsOfRequest MalformedJson = Unit {0}
+IsOfRequest (InvalidRequest rule kind) = Unit {0}
+IsOfRequest ConfigurationTooLong = Unit {0}
 IsOfRequest NoSuchRoute = Unit {0}
 IsOfRequest UnknownQuery = Unit {0}
 IsOfRequest WrongMethod = Unit {0}

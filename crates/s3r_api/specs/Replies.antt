@@ -4,6 +4,9 @@ use Rattle.std.specs.Str.{bytes_eq}
 use Rattle.serde_json.specs.Data.{Data, Members, no_members, member, string, number, unsigned, object}
 use Rattle.serde_json.specs.Written.{compact_text}
 use Rattle.s3r_names.specs.declared.version.VersionId.{VersionId}
+use Rattle.s3r_rules.specs.declared.fault.Kind.{Kind}
+use Rattle.s3r_rules.specs.Kinds.{kind_text}
+use Rattle.s3r_rules.specs.Printing.{config_data}
 use Rattle.s3r_history.specs.declared.refusal.Refusal.{Refusal}
 use Rattle.s3r_history.specs.declared.refusal.Refusal.TheVariants as refusal
 use Rattle.s3r_http.specs.declared.message.Field.{Field}
@@ -83,6 +86,10 @@ region_members region = member (codes "Region") (string (codes "r" ++ decimal re
 abbrev pub rule_members : List ℕ → ℕ → Members
 rule_members kind rule = member (codes "Kind") (string kind) (member (codes "Rule") (number (unsigned rule)) no_members)
 
+-- a rule of a configuration is wrong so
+abbrev pub kind_reply : ℕ → Kind → Reply
+kind_reply rule kind = json_reply 400 (code_text (codes "InvalidRequest") (rule_members (kind_text kind) rule))
+
 abbrev pub refusal_reply : Refusal → Reply
 refusal_reply refusal.NoSuchBucket = coded 404 (codes "NoSuchBucket")
 refusal_reply refusal.BucketAlreadyExists = coded 409 (codes "BucketAlreadyExists")
@@ -92,6 +99,9 @@ refusal_reply refusal.MethodNotAllowed = coded 405 (codes "MethodNotAllowed")
 refusal_reply refusal.AccessDenied = coded 403 (codes "AccessDenied")
 refusal_reply refusal.InvalidBucketState = coded 409 (codes "InvalidBucketState")
 refusal_reply refusal.LockNeeded = json_reply 400 (code_text (codes "InvalidRequest") (rule_members (codes "LockNeeded") 0))
+refusal_reply refusal.NoReplication = coded 404 (codes "ReplicationConfigurationNotFoundError")
+refusal_reply (refusal.InvalidRequest rule kind) = kind_reply rule kind
+refusal_reply (refusal.NoSuchRegion region) = coded 400 (codes "InvalidLocationConstraint")
 refusal_reply refusal.TooManyBuckets = coded 400 (codes "TooManyBuckets")
 refusal_reply refusal.NoSuchKey = coded 404 (codes "NoSuchKey")
 refusal_reply refusal.InvalidLocation = coded 400 (codes "InvalidLocationConstraint")
@@ -131,6 +141,8 @@ problem_reply problem.InvalidStorageClass = coded 400 (codes "InvalidStorageClas
 problem_reply problem.InvalidQuery = coded 400 (codes "InvalidArgument")
 problem_reply problem.InvalidHold = coded 400 (codes "InvalidArgument")
 problem_reply problem.MalformedJson = coded 400 (codes "MalformedJSON")
+problem_reply (problem.InvalidRequest rule kind) = kind_reply rule kind
+problem_reply problem.ConfigurationTooLong = coded 400 (codes "EntityTooLarge")
 problem_reply problem.NoSuchRoute = coded 404 (codes "NoSuchRoute")
 problem_reply problem.UnknownQuery = coded 501 (codes "NotImplemented")
 problem_reply problem.WrongMethod = coded 405 (codes "MethodNotAllowed")
@@ -151,6 +163,7 @@ answer_reply (Ok (answer.MarkerThere id named)) = marker_reply id named
 answer_reply (Ok (answer.TagSet tags)) = json_reply 200 (compact_text (tags_data tags))
 answer_reply (Ok (answer.Hold hold)) = status_reply (hold_word hold)
 answer_reply (Ok (answer.Versioning enabled)) = status_reply (versioning_word enabled)
+answer_reply (Ok (answer.Configuration config)) = json_reply 200 (compact_text (config_data config))
 answer_reply (Ok (answer.Listing listing)) = json_reply 200 (compact_text (listing_data listing))
 answer_reply (Ok (answer.Refused why)) = refusal_reply why
 answer_reply (Err why) = fault_reply why

@@ -2,6 +2,9 @@
 use Rattle.std.specs.Prelude.{ℕ, Bool, true, false, if◌then◌else◌, is_some, List, [], Option, Some, None, Result, Ok, Err, codes, ◌&&◌, not}
 use Rattle.std.specs.Str.{bytes_eq}
 use Rattle.s3r_names.specs.declared.version.VersionId.{VersionId}
+use Rattle.s3r_rules.specs.declared.rule.Rule.{Rule}
+use Rattle.s3r_rules.specs.Reading.{config_body}
+use Rattle.s3r_record.specs.Spelling.{fits_record}
 use Rattle.s3r_http.specs.declared.message.RawRequest.{RawRequest}
 use Rattle.s3r_json.specs.Status.{status_body}
 use Rattle.s3r_json.specs.Tags.{tags_body}
@@ -18,8 +21,8 @@ use Rattle.s3r_versions.specs.declared.listing.Place.{Place as Behind}
 use Rattle.s3r_desk.specs.declared.request.Request.{Request}
 use Rattle.s3r_desk.specs.declared.request.Request.TheVariants as request
 use Rattle.s3r_api.specs.declared.problem.Problem.{Problem}
-use Rattle.s3r_api.specs.declared.problem.Problem.TheVariants.{NoSuchRoute, UnknownQuery, InvalidQuery}
-use Rattle.s3r_api.specs.Faults.{routed, from_body}
+use Rattle.s3r_api.specs.declared.problem.Problem.TheVariants.{NoSuchRoute, UnknownQuery, InvalidQuery, ConfigurationTooLong}
+use Rattle.s3r_api.specs.Faults.{routed, from_body, from_config}
 use Rattle.s3r_api.specs.Location.{region_of}
 use Rattle.s3r_api.specs.Lines.{locked_by, tags_by, hold_by, class_by}
 
@@ -66,12 +69,22 @@ create_request raw name = locked_by raw >>= λ locked. region_of raw.body >>= λ
 abbrev pub versioning_request : RawRequest → List ℕ → Result Request Problem
 versioning_request raw name = from_body (status_body (codes "Enabled") (codes "Suspended") raw.body) >>= λ enabled. Ok (request.PutVersioning name enabled)
 
+-- a configuration is taken where a record can hold its command
+abbrev pub if_recorded : List ℕ → List Rule → Result Request Problem
+if_recorded name config = if fits_record name config then Ok (request.PutReplication name config) else Err ConfigurationTooLong
+
+abbrev pub replication_request : RawRequest → List ℕ → Result Request Problem
+replication_request raw name = from_config (config_body raw.body) >>= if_recorded name
+
 abbrev pub bucket_asked : RawRequest → List Pair → List ℕ → Route → Result Request Problem
 bucket_asked raw words name route.CreateBucket = create_request raw name
 bucket_asked raw words name route.HeadBucket = Ok (request.HeadBucket name)
 bucket_asked raw words name route.DeleteBucket = Ok (request.DeleteBucket name)
 bucket_asked raw words name route.PutVersioning = versioning_request raw name
 bucket_asked raw words name route.GetVersioning = Ok (request.GetVersioning name)
+bucket_asked raw words name route.PutReplication = replication_request raw name
+bucket_asked raw words name route.GetReplication = Ok (request.GetReplication name)
+bucket_asked raw words name route.DeleteReplication = Ok (request.DeleteReplication name)
 bucket_asked raw words name route.ListVersions = list_request words name
 bucket_asked raw words name other = Err UnknownQuery
 

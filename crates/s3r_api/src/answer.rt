@@ -9,8 +9,8 @@ ghost use Rattle.s3r_api.specs.Texts.{reply_text, answer_text, problem_text, Ids
 use crate::ids::id_bytes;
 use crate::problem::Problem;
 use crate::replies::{
-    JsonReply, code_text, fault_reply, hold_reply, listing_reply, problem_reply, refusal_reply,
-    tags_reply, versioning_reply,
+    JsonReply, code_text, config_reply, fault_reply, hold_reply, listing_reply, problem_reply,
+    refusal_reply, tags_reply, versioning_reply,
 };
 use http::StatusCode;
 use s3r_desk::{Answer, DeskFault};
@@ -257,6 +257,9 @@ pub fn answer_bytes(
         Ok(Answer::Hold(hold)) => json_bytes(alloc, &hold_reply(alloc, *hold)?, head, last),
         Ok(Answer::Versioning(enabled)) => {
             json_bytes(alloc, &versioning_reply(alloc, *enabled)?, head, last)
+        }
+        Ok(Answer::Configuration(config)) => {
+            json_bytes(alloc, &config_reply(alloc, config)?, head, last)
         }
         Ok(Answer::Listing(listing)) => {
             json_bytes(alloc, &listing_reply(alloc, listing)?, head, last)

@@ -6,6 +6,7 @@ ghost use Rattle.s3r_api.specs.Problems.{problem_of};
 use s3r_http::HttpFault;
 use s3r_json::BodyFault;
 use s3r_routes::RouteFault;
+use s3r_rules::{ConfigFault, Kind};
 use std::alloc::AllocError;
 
 /// Why a request isn't one of the desk's.
@@ -25,6 +26,10 @@ pub enum Problem {
     InvalidHold,
     /// The body isn't the JSON that the route asks for.
     MalformedJson,
+    /// A rule of a configuration is wrong so, counted from 1; 0 where it is at none.
+    InvalidRequest { rule: u32, kind: Kind },
+    /// A configuration whose command is longer than a record may be.
+    ConfigurationTooLong,
     /// The target is no path, or the path of nothing.
     NoSuchRoute,
     /// No row of the request table has this path with these words, or it isn't built.
@@ -81,6 +86,20 @@ impl From<BodyFault> for Problem {
             BodyFault::MalformedJson => Problem::MalformedJson,
             BodyFault::InvalidTag => Problem::InvalidTag,
             BodyFault::OutOfMemory => Problem::OutOfMemory,
+        }
+    }
+}
+
+impl From<ConfigFault> for Problem {
+    ghost use Rattle.s3r_api.specs.Faults.{of_config};
+
+    ghost from_gives = { λ fault problem. problem ≡ of_config fault };
+
+    fn from(fault: ConfigFault) -> Self {
+        match fault {
+            ConfigFault::MalformedJson => Problem::MalformedJson,
+            ConfigFault::InvalidRequest(rule, kind) => Problem::InvalidRequest { rule, kind },
+            ConfigFault::OutOfMemory => Problem::OutOfMemory,
         }
     }
 }

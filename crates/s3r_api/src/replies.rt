@@ -5,8 +5,9 @@ ghost use Rattle.serde_json.specs.Data.{no_members, member, string, number, unsi
 ghost use Rattle.serde_json.specs.View.{view};
 ghost use Rattle.serde_json.specs.Written.{compact_text};
 ghost use Rattle.s3r_json.specs.Tags.{tags_data};
+ghost use Rattle.s3r_rules.specs.Printing.{config_data};
 ghost use Rattle.s3r_api.specs.Listings.{listing_data};
-ghost use Rattle.s3r_api.specs.Replies.{json_reply, status_reply, hold_word, versioning_word, code_data, code_text, coded, region_members, rule_members, refusal_reply, fault_reply, problem_reply};
+ghost use Rattle.s3r_api.specs.Replies.{json_reply, status_reply, hold_word, versioning_word, code_data, code_text, coded, region_members, rule_members, kind_reply, refusal_reply, fault_reply, problem_reply};
 
 use crate::listings::listing_text;
 use crate::problem::Problem;
@@ -14,6 +15,7 @@ use http::StatusCode;
 use s3r_desk::{DeskFault, Listing, Refusal};
 use s3r_json::{status_text, tags_text};
 use s3r_names::TagSet;
+use s3r_rules::{Config, Kind};
 use serde_json::{Value, json};
 use std::alloc::{AllocError, Global};
 
@@ -82,6 +84,16 @@ fn coded(alloc: Global, status: StatusCode, code: &str) -> Result<JsonReply, All
     Ok(JsonReply { status, body })
 }
 
+/// A rule of a configuration is wrong so.
+fn kind_reply(alloc: Global, rule: u32, kind: Kind) -> Result<JsonReply, AllocError>
+    ensures { IfOk result (λ reply. json_reply reply.status (string_bytes reply.body) ≡ kind_reply rule kind) }
+{
+    Ok(JsonReply {
+        status: StatusCode::BAD_REQUEST,
+        body: rule_text(alloc, "InvalidRequest", kind.as_str(), rule)?,
+    })
+}
+
 pub fn refusal_reply(alloc: Global, refusal: Refusal) -> Result<JsonReply, AllocError>
     ensures { IfOk result (λ reply. json_reply reply.status (string_bytes reply.body) ≡ refusal_reply refusal) }
 {
@@ -99,6 +111,16 @@ pub fn refusal_reply(alloc: Global, refusal: Refusal) -> Result<JsonReply, Alloc
             status: StatusCode::BAD_REQUEST,
             body: rule_text(alloc, "InvalidRequest", "LockNeeded", 0)?,
         }),
+        Refusal::NoReplication => coded(
+            alloc,
+            StatusCode::NOT_FOUND,
+            "ReplicationConfigurationNotFoundError",
+        ),
+        Refusal::InvalidRequest { rule, kind } => kind_reply(alloc, rule, kind),
+        // (no desk answers this one)
+        Refusal::NoSuchRegion { .. } => {
+            coded(alloc, StatusCode::BAD_REQUEST, "InvalidLocationConstraint")
+        }
         Refusal::TooManyBuckets => coded(alloc, StatusCode::BAD_REQUEST, "TooManyBuckets"),
         Refusal::NoSuchKey => coded(alloc, StatusCode::NOT_FOUND, "NoSuchKey"),
         Refusal::InvalidLocation => {
@@ -122,6 +144,15 @@ fn status_reply(alloc: Global, word: &str) -> Result<JsonReply, AllocError>
     Ok(JsonReply {
         status: StatusCode::OK,
         body: status_text(alloc, word)?,
+    })
+}
+
+pub fn config_reply(alloc: Global, config: &Config) -> Result<JsonReply, AllocError>
+    ensures { IfOk result (λ reply. json_reply reply.status (string_bytes reply.body) ≡ json_reply 200 (compact_text (config_data config.now))) }
+{
+    Ok(JsonReply {
+        status: StatusCode::OK,
+        body: config.print(alloc)?,
     })
 }
 
@@ -177,26 +208,35 @@ pub fn fault_reply(alloc: Global, fault: DeskFault) -> Result<JsonReply, AllocEr
 pub fn problem_reply(alloc: Global, problem: Problem) -> Result<JsonReply, AllocError>
     ensures { IfOk result (λ reply. json_reply reply.status (string_bytes reply.body) ≡ problem_reply problem) }
 {
-    let (status, code) = match problem {
-        Problem::InvalidBucketName => (StatusCode::BAD_REQUEST, "InvalidBucketName"),
-        Problem::KeyTooLong => (StatusCode::BAD_REQUEST, "KeyTooLongError"),
-        Problem::InvalidKey => (StatusCode::BAD_REQUEST, "InvalidURI"),
-        Problem::InvalidTag => (StatusCode::BAD_REQUEST, "InvalidTag"),
-        Problem::InvalidVersionId => (StatusCode::BAD_REQUEST, "InvalidArgument"),
-        Problem::InvalidStorageClass => (StatusCode::BAD_REQUEST, "InvalidStorageClass"),
-        Problem::InvalidQuery => (StatusCode::BAD_REQUEST, "InvalidArgument"),
-        Problem::InvalidHold => (StatusCode::BAD_REQUEST, "InvalidArgument"),
-        Problem::MalformedJson => (StatusCode::BAD_REQUEST, "MalformedJSON"),
-        Problem::NoSuchRoute => (StatusCode::NOT_FOUND, "NoSuchRoute"),
-        Problem::UnknownQuery => (StatusCode::NOT_IMPLEMENTED, "NotImplemented"),
-        Problem::WrongMethod => (StatusCode::METHOD_NOT_ALLOWED, "MethodNotAllowed"),
-        Problem::BadHead => (StatusCode::BAD_REQUEST, "BadHead"),
-        Problem::HeadTooLong => (StatusCode::REQUEST_HEADER_FIELDS_TOO_LARGE, "HeadTooLong"),
-        Problem::BadLength => (StatusCode::BAD_REQUEST, "BadLength"),
-        Problem::EntityTooLarge => (StatusCode::BAD_REQUEST, "EntityTooLarge"),
-        Problem::NotImplemented => (StatusCode::NOT_IMPLEMENTED, "NotImplemented"),
-        Problem::CutShort => (StatusCode::BAD_REQUEST, "CutShort"),
-        Problem::OutOfMemory => (StatusCode::INTERNAL_SERVER_ERROR, "OutOfMemory"),
-    };
-    coded(alloc, status, code)
+    match problem {
+        Problem::InvalidBucketName => coded(alloc, StatusCode::BAD_REQUEST, "InvalidBucketName"),
+        Problem::KeyTooLong => coded(alloc, StatusCode::BAD_REQUEST, "KeyTooLongError"),
+        Problem::InvalidKey => coded(alloc, StatusCode::BAD_REQUEST, "InvalidURI"),
+        Problem::InvalidTag => coded(alloc, StatusCode::BAD_REQUEST, "InvalidTag"),
+        Problem::InvalidVersionId => coded(alloc, StatusCode::BAD_REQUEST, "InvalidArgument"),
+        Problem::InvalidStorageClass => coded(
+            alloc,
+            StatusCode::BAD_REQUEST,
+            "InvalidStorageClass",
+        ),
+        Problem::InvalidQuery => coded(alloc, StatusCode::BAD_REQUEST, "InvalidArgument"),
+        Problem::InvalidHold => coded(alloc, StatusCode::BAD_REQUEST, "InvalidArgument"),
+        Problem::MalformedJson => coded(alloc, StatusCode::BAD_REQUEST, "MalformedJSON"),
+        Problem::InvalidRequest { rule, kind } => kind_reply(alloc, rule, kind),
+        Problem::ConfigurationTooLong => coded(alloc, StatusCode::BAD_REQUEST, "EntityTooLarge"),
+        Problem::NoSuchRoute => coded(alloc, StatusCode::NOT_FOUND, "NoSuchRoute"),
+        Problem::UnknownQuery => coded(alloc, StatusCode::NOT_IMPLEMENTED, "NotImplemented"),
+        Problem::WrongMethod => coded(alloc, StatusCode::METHOD_NOT_ALLOWED, "MethodNotAllowed"),
+        Problem::BadHead => coded(alloc, StatusCode::BAD_REQUEST, "BadHead"),
+        Problem::HeadTooLong => coded(
+            alloc,
+            StatusCode::REQUEST_HEADER_FIELDS_TOO_LARGE,
+            "HeadTooLong",
+        ),
+        Problem::BadLength => coded(alloc, StatusCode::BAD_REQUEST, "BadLength"),
+        Problem::EntityTooLarge => coded(alloc, StatusCode::BAD_REQUEST, "EntityTooLarge"),
+        Problem::NotImplemented => coded(alloc, StatusCode::NOT_IMPLEMENTED, "NotImplemented"),
+        Problem::CutShort => coded(alloc, StatusCode::BAD_REQUEST, "CutShort"),
+        Problem::OutOfMemory => coded(alloc, StatusCode::INTERNAL_SERVER_ERROR, "OutOfMemory"),
+    }
 }

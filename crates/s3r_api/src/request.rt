@@ -5,7 +5,7 @@ ghost use Rattle.s3r_desk.specs.Steps.{IsRequest};
 ghost use Rattle.s3r_routes.specs.Places.{seen};
 ghost use Rattle.s3r_api.specs.Problems.{Gives, GivesBy, IsOfRequest};
 ghost use Rattle.s3r_api.specs.Asking.{asked_seen};
-ghost use Rattle.s3r_api.specs.Request.{is_head, create_request, versioning_request, bucket_asked, put_request, tags_request, hold_request, version_asked, is_put, object_asked, asked_at, bucket_request, object_request, other_request, request_at, request_of};
+ghost use Rattle.s3r_api.specs.Request.{is_head, create_request, versioning_request, if_recorded, replication_request, bucket_asked, put_request, tags_request, hold_request, version_asked, is_put, object_asked, asked_at, bucket_request, object_request, other_request, request_at, request_of};
 
 use crate::lines::{class_by, hold_by, locked_by, tags_by};
 use crate::location::region_of;
@@ -15,9 +15,11 @@ use s3r_desk::Request;
 use s3r_http::RawRequest;
 use s3r_json::{status_of, tags_of};
 use s3r_names::{BucketName, Key, TagSet, VersionId};
+use s3r_record::fits_record;
 use s3r_routes::{
     Place, Query, Route, bucket_named, key_written, path_of, place_of, route_of, version_of,
 };
+use s3r_rules::Config;
 use std::alloc::Global;
 
 /// Whether the method is HEAD.
@@ -61,6 +63,34 @@ fn versioning_request(alloc: Global, raw: &RawRequest, name: BucketName) -> Resu
     Ok(Request::PutVersioning { name, enabled })
 }
 
+/// A configuration that a record can hold.
+fn if_recorded(alloc: Global, name: BucketName, config: Config) -> Result<Request, Problem>
+    ensures { Gives result (if_recorded name config) }
+{
+    match fits_record(alloc, &name, &config) {
+        Ok(true) => Ok(Request::PutReplication { name, config }),
+        Ok(false) => {
+            drop(config);
+            Err(Problem::ConfigurationTooLong)
+        }
+        Err(_) => {
+            drop(config);
+            Err(Problem::OutOfMemory)
+        }
+    }
+}
+
+fn replication_request(
+    alloc: Global,
+    raw: &RawRequest,
+    name: BucketName,
+) -> Result<Request, Problem>
+    ensures { Gives result (replication_request raw.now name) }
+{
+    let config = Config::read(alloc, raw.body.as_slice())?;
+    if_recorded(alloc, name, config)
+}
+
 /// What a row asks of a bucket.
 fn bucket_asked(
     alloc: Global,
@@ -77,6 +107,9 @@ fn bucket_asked(
         Route::DeleteBucket => Ok(Request::DeleteBucket { name }),
         Route::PutVersioning => versioning_request(alloc, raw, name),
         Route::GetVersioning => Ok(Request::GetVersioning { name }),
+        Route::PutReplication => replication_request(alloc, raw, name),
+        Route::GetReplication => Ok(Request::GetReplication { name }),
+        Route::DeleteReplication => Ok(Request::DeleteReplication { name }),
         Route::ListVersions => list_request(alloc, words, name),
         _ => Err(Problem::UnknownQuery),
     }

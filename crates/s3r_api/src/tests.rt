@@ -59,6 +59,13 @@ fn of_bucket(alloc: Global, request: &Request) -> Result<String, AllocError> {
             format!(in alloc; "versioning {} {enabled}", name.as_str())
         }
         Request::GetVersioning { name } => format!(in alloc; "versioning of {}", name.as_str()),
+        Request::PutReplication { name, config } => {
+            format!(in alloc; "replication {} {}", name.as_str(), config.as_slice().len())
+        }
+        Request::GetReplication { name } => format!(in alloc; "replication of {}", name.as_str()),
+        Request::DeleteReplication { name } => {
+            format!(in alloc; "no replication {}", name.as_str())
+        }
         Request::ListVersions {
             prefix,
             after,
@@ -179,7 +186,9 @@ GET | /aaa/k?%ff | InvalidQuery
 GET | /aaa/k?x | UnknownQuery
 GET | /?a | NoSuchRoute
 GET | * | NoSuchRoute
-PUT | /aaa?replication | UnknownQuery
+GET | /aaa?replication | replication of aaa
+DELETE | /aaa?replication&x-id=x | no replication aaa
+PUT | /aaa?replication | MalformedJson
 POST | /aaa?replication | WrongMethod
 POST | /v20180820/jobs | UnknownQuery
 PUT | /v20180820/jobs/x/status | WrongMethod
@@ -213,6 +222,10 @@ const BODIES: &str = "\
 /aaa?versioning | {\"Status\":\"Suspended\"} | versioning aaa false
 /aaa?versioning | {\"Status\":\"ON\"} | MalformedJson
 /aaa?versioning |  | MalformedJson
+/aaa?replication | {\"Rules\":[{\"Status\":\"Enabled\",\"Destination\":{\"Bucket\":\"arn:aws:s3:::dst\"}}]} | replication aaa 1
+/aaa?replication | {\"Rules\":[]} | InvalidRequest { rule: 0, kind: NoRule }
+/aaa?replication | {\"Rules\":[{\"Status\":\"Enabled\",\"Destination\":{\"Bucket\":\"dst\"}}]} | InvalidRequest { rule: 1, kind: BadArn }
+/aaa?replication | [] | MalformedJson
 /aaa/k?tagging | {\"TagSet\":[{\"Key\":\"k\",\"Value\":\"v\"}]} | tags 0 'k=v' false
 /aaa/k?tagging | {\"TagSet\":[]} | tags 0 '' false
 /aaa/k?tagging | {\"TagSet\":[{\"Key\":\"\",\"Value\":\"v\"}]} | InvalidTag

@@ -1,12 +1,9 @@
 -- What a request comes to.
-use Rattle.std.proofs.Common.{◌≡◌, ℕ, ◌+◌, ◌<◌, Bool, true, false, cond, ltb, List, [], ◌∷◌, length, Option, Some, None, is_some, Result, Ok, Err, IfOk, IfErr, refl, sym, ◌∙◌, ap, subst, inl, inr}
-use Rattle.std.proofs.lemmas.Bool.{ltb-true}
+use Rattle.std.proofs.Common.{◌≡◌, ℕ, ◌<◌, List, [], ◌∷◌, length, Option, None, Result, Ok, Err, IfOk, IfErr, refl, sym, ◌∙◌, ap, subst, inl, inr}
 use Rattle.s3r_world.specs.Outside.{Outside, Looks}
 use Rattle.s3r_record.specs.declared.command.Command.{Command}
-use Rattle.s3r_history.specs.Words.{Name}
 use Rattle.s3r_history.specs.Accepts.{refusal}
 use Rattle.s3r_history.specs.declared.refusal.Refusal.{Refusal}
-use Rattle.s3r_history.specs.declared.refusal.Refusal.TheVariants as refusals
 use Rattle.s3r_store.specs.declared.store.Store.{Store}
 use Rattle.s3r_store.specs.Commits.{length_with}
 use Rattle.s3r_desk.specs.declared.committing.Committed.TheVariants as committed
@@ -39,11 +36,11 @@ module _ (before : Events) (s : Step) (room : ℕ → ℕ) (a b : List Store) (o
   came_either reply (Err e) is same fault looks keeps = subst (λ (y : DeskFault). Came before s (Err y) room a b old new) (sym fault) (came_starved looks keeps)
 
   -- one command is, where it is accepted
-  module _ (r : ℕ) (c : Command) (reply : Answer) (is : s ≡ commits_to (history_at before) r c reply) where
+  module _ (r : ℕ) (c : Command) (reply : Answer) (is : s ≡ commits_to (length a) (history_at before) r c reply) where
     commit : Commit
     commit = record { region = r; command = c }
 
-    made_step : refusal r (history_at before r) c ≡ None → s ≡ record { commits = record { region = r; command = c } ∷ []; reply = reply }
+    made_step : refusal (length a) r (history_at before r) c ≡ None → s ≡ record { commits = record { region = r; command = c } ∷ []; reply = reply }
     made_step none = is ∙ ap (λ (o : Option Refusal). commits_unless o (record { region = r; command = c }) reply) none
 
     pub came_at : (index : ℕ) (reply' : Answer) → reply' ≡ reply → CommitsOne before (length a) r (history_at before r) c (room r) (Ok (committed.At index)) b old new → Came before s (Ok reply') room a b old new

@@ -1,8 +1,12 @@
 -- What read stores tell, by the histories of their regions.
-use Rattle.std.proofs.Common.{◌≡◌, ℕ, zero, suc, ◌+◌, ◌-◌, ◌<◌, List, [], ◌∷◌, length, Option, Some, None, IsSome, unwrap_or, refl, sym, ◌∙◌, ap, subst, arith}
+use Rattle.std.proofs.Common.{◌≡◌, ℕ, zero, suc, ◌+◌, ◌-◌, ◌<◌, cond, bytes_eq, List, [], ◌∷◌, length, Option, Some, None, IsSome, unwrap_or, refl, sym, ◌∙◌, ap, subst, arith}
 use Rattle.std.specs.Prelude.{slice_get}
 use Rattle.std.specs.Option.{option_map, option_and_then}
 use Rattle.s3r_world.specs.Outside.{Outside}
+use Rattle.s3r_rules.specs.declared.rule.Rule.{Rule}
+use Rattle.s3r_rules.specs.declared.fault.Kind.TheVariants as kind
+use Rattle.s3r_record.specs.declared.command.Command.TheVariants as command
+use Rattle.s3r_history.specs.declared.refusal.Refusal.TheVariants as refusals
 use Rattle.s3r_history.specs.Words.{Name, History}
 use Rattle.s3r_history.specs.Told.{told}
 use Rattle.s3r_region.specs.Contents.{Contents}
@@ -13,10 +17,14 @@ use Rattle.s3r_store.specs.Knows.{Knows}
 use Rattle.s3r_store.specs.Stores.{state_of}
 use Rattle.s3r_desk.specs.declared.request.Request.{Request}
 use Rattle.s3r_desk.specs.declared.request.Request.TheVariants as request
+use Rattle.s3r_desk.specs.declared.request.Answer.TheVariants as answer
+use Rattle.s3r_desk.specs.declared.planning.Plan.{Plan}
+use Rattle.s3r_desk.specs.declared.planning.Plan.TheVariants.{Commits}
+use Rattle.s3r_desk.specs.declared.planning.Reply.TheVariants.{Is}
 use Rattle.s3r_desk.specs.Events.{Events, known, history_at}
 use Rattle.s3r_desk.specs.Keeping.{IsHeld, Keeps, AreRead}
 use Rattle.s3r_desk.specs.Lookups.{bucket_in, told_in, views_of}
-use Rattle.s3r_desk.specs.Steps.{Home, Views, or_home, home_from, home, plan, views, made_of, step}
+use Rattle.s3r_desk.specs.Steps.{Home, Views, or_home, home_from, home, at_home, or_wrong, kind_there, wrong_rule, first_wrong, not_taken, region_of, regions_of, unless_refused, replication, plan, views, made_of, step}
 use Rattle.s3r_desk.specs.Responds.{AreKnown}
 
 -- ---- one store
@@ -27,12 +35,12 @@ none_within {X} (x ∷ xs) zero lt e = cc
 none_within {X} (x ∷ xs) (suc r) lt e = none_within xs r (omega (arith, lt)) e
 
 module _ (events : Events) (stores : List Store) (w : Outside) (keeps : Keeps events stores w) (read : AreRead stores) where
-  held_at : (r : ℕ) (o : Option Held) → IsHeld events r o w → IsSome o → (held : Held) × (o ≡ Some held) × Knows r held (history_at events r) w
-  held_at r None held some = absurd cc
-  held_at r (Some held) is some = (held, refl, subst (λ (h : History). Knows r held h w) (sym (ap (λ (o : Option History). unwrap_or o []) is.1)) is.2)
+  held_at : (n r : ℕ) (o : Option Held) → IsHeld n events r o w → IsSome o → (held : Held) × (o ≡ Some held) × Knows n r held (history_at events r) w
+  held_at n r None held some = absurd cc
+  held_at n r (Some held) is some = (held, refl, subst (λ (h : History). Knows n r held h w) (sym (ap (λ (o : Option History). unwrap_or o []) is.1)) is.2)
 
-  pub known_at : (r : ℕ) (s : Store) → slice_get stores r ≡ Some s → (held : Held) × (s.held ≡ Some held) × Knows r held (history_at events r) w
-  known_at r s get = held_at r s.held (keeps r s get) (read r s get)
+  pub known_at : (r : ℕ) (s : Store) → slice_get stores r ≡ Some s → (held : Held) × (s.held ≡ Some held) × Knows s.regions r held (history_at events r) w
+  known_at r s get = held_at s.regions r s.held (keeps r s get) (read r s get)
 
   told_is : (b : Name) (r : ℕ) (s : Store) → slice_get stores r ≡ Some s → told_in b s ≡ told r (history_at events r) b
   told_is b r s get =
@@ -60,6 +68,27 @@ home_from_same r (suc n) m v u b all same =
 pub home_same : (n : ℕ) (v u : Views) (b : Name) → ((r : ℕ) → r < n → v r b ≡ u r b) → home n v b ≡ home n u b
 home_same n v u b same = home_from_same 0 n n v u b (omega arith) same
 
+at_home_same : (p q : Home → Plan) → ((h : Home) → p h ≡ q h) → (o : Option Home) → at_home p o ≡ at_home q o
+at_home_same p q same None = refl
+at_home_same p q same (Some h) = same h
+
+-- a configuration's plan asks only where its destinations are, and what is told of them there
+module _ (at by : Name → Option Home) (b : Name) (same : (name : Name) → at name ≡ by name) where
+  wrong_same : (k : ℕ) (rules : List Rule) → first_wrong (wrong_rule at b) k rules ≡ first_wrong (wrong_rule by b) k rules
+  wrong_same k [] = refl
+  wrong_same k (rule ∷ rules) =
+      ap (λ o. or_wrong k (cond (bytes_eq rule.bucket b) (Some kind.SameBucket) (kind_there o)) (first_wrong (wrong_rule at b) (k + 1) rules)) (same rule.bucket)
+      ∙ ap (or_wrong k (wrong_rule by b rule)) (wrong_same (k + 1) rules)
+
+  regions_same : (rules : List Rule) → regions_of at rules ≡ regions_of by rules
+  regions_same [] = refl
+  regions_same (rule ∷ rules) = ap (λ o. region_of o ∷ regions_of at rules) (same rule.bucket) ∙ ap (λ rs. region_of (by rule.bucket) ∷ rs) (regions_same rules)
+
+replication_same : (at by : Name → Option Home) (b : Name) (rules : List Rule) → ((name : Name) → at name ≡ by name) → (h : Home) → replication at b rules h ≡ replication by b rules h
+replication_same at by b rules same h =
+    ap (λ rs. unless_refused (Commits h.region (command.SetReplication b rules rs) (Is answer.Done)) (not_taken at b rules h)) (regions_same at by b same rules)
+    ∙ ap (λ o. unless_refused (Commits h.region (command.SetReplication b rules (regions_of by rules)) (Is answer.Done)) (cond h.told.enabled o (Some refusals.InvalidBucketState))) (wrong_same at by b same 1 rules)
+
 -- a request's plan asks only where its bucket is, and what is told of it there
 pub plan_same : (n : ℕ) (v u : Views) (q : Request) → ((b : Name) (r : ℕ) → r < n → v r b ≡ u r b) → plan n v q ≡ plan n u q
 plan_same n v u (request.CreateBucket name region locked) same = rw (home_same n v u name (same name)) refl
@@ -67,6 +96,11 @@ plan_same n v u (request.HeadBucket name) same = rw (home_same n v u name (same 
 plan_same n v u (request.DeleteBucket name) same = rw (home_same n v u name (same name)) refl
 plan_same n v u (request.PutVersioning name enabled) same = rw (home_same n v u name (same name)) refl
 plan_same n v u (request.GetVersioning name) same = rw (home_same n v u name (same name)) refl
+plan_same n v u (request.PutReplication name config) same =
+    let homes : (b : Name) → home n v b ≡ home n u b = λ b. home_same n v u b (same b) in
+    ap (at_home (replication (home n v) name config)) (homes name) ∙ at_home_same (replication (home n v) name config) (replication (home n u) name config) (replication_same (home n v) (home n u) name config homes) (home n u name)
+plan_same n v u (request.GetReplication name) same = rw (home_same n v u name (same name)) refl
+plan_same n v u (request.DeleteReplication name) same = rw (home_same n v u name (same name)) refl
 plan_same n v u (request.ListVersions name prefix after limit) same = rw (home_same n v u name (same name)) refl
 plan_same n v u (request.PutObject b key body tags hold class) same = rw (home_same n v u b (same b)) refl
 plan_same n v u (request.GetObject b key version) same = rw (home_same n v u b (same b)) refl
@@ -81,13 +115,13 @@ plan_same n v u (request.GetHold b key version) same = rw (home_same n v u b (sa
 pub all_known : (events : Events) (stores : List Store) (w : Outside) → Keeps events stores w → AreRead stores → AreKnown (length stores) events
 all_known events stores w keeps read r lt = go (slice_get stores r) refl
   where
-    held : (o : Option Held) → IsHeld events r o w → IsSome o → IsSome (known events r)
-    held None was some = absurd cc
-    held (Some x) was some = subst (λ (o : Option History). IsSome o) (sym was.1) refl
+    held : (n : ℕ) (o : Option Held) → IsHeld n events r o w → IsSome o → IsSome (known events r)
+    held n None was some = absurd cc
+    held n (Some x) was some = subst (λ (o : Option History). IsSome o) (sym was.1) refl
 
     go : (o : Option Store) → slice_get stores r ≡ o → IsSome (known events r)
     go None e = absurd (none_within stores r lt e)
-    go (Some s) e = held s.held (keeps r s e) (read r s e)
+    go (Some s) e = held s.regions s.held (keeps r s e) (read r s e)
 
 history_of : (o : Option History) → IsSome o → o ≡ Some (unwrap_or o [])
 history_of None some = absurd cc
@@ -98,9 +132,9 @@ pub known_here : (events : Events) (stores : List Store) (w : Outside) → Keeps
 known_here events stores w keeps read r lt = history_of (known events r) (all_known events stores w keeps read r lt)
 
 -- the step that a plan over the stores makes
-pub step_is : (events : Events) (stores : List Store) (w : Outside) → Keeps events stores w → AreRead stores → (q : Request) → step (length stores) (history_at events) q ≡ made_of (history_at events) (plan (length stores) (views_of stores) q)
+pub step_is : (events : Events) (stores : List Store) (w : Outside) → Keeps events stores w → AreRead stores → (q : Request) → step (length stores) (history_at events) q ≡ made_of (length stores) (history_at events) (plan (length stores) (views_of stores) q)
 step_is events stores w keeps read q =
-    ap (made_of (history_at events)) (sym (plan_same (length stores) (views_of stores) (views (history_at events)) q (λ b r lt. views_are events stores w keeps read b r lt)))
+    ap (made_of (length stores) (history_at events)) (sym (plan_same (length stores) (views_of stores) (views (history_at events)) q (λ b r lt. views_are events stores w keeps read b r lt)))
 
 -- a region that doesn't have the bucket is passed over
 pub home_on : (n r : ℕ) (v : Views) (b : Name) (h : Option Home) → r < n → v r b ≡ None → home_from r (n - r) v b ≡ h → home_from (r + 1) (n - (r + 1)) v b ≡ h

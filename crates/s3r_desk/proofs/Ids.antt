@@ -1,7 +1,6 @@
 -- The ids of rows that are found.
-use Rattle.std.proofs.Common.{◌≡◌, ◌<◌, ◌≤◌, ℕ, Bool, true, false, cond, nat_lt, nat_le, ◌&&◌, List, [], ◌∷◌, Option, Some, None, find, Result, Ok, Err, IfOk, IfSome, Bor, refl, sym, ap, ◌∙◌, subst, leb-true, ltb-true}
+use Rattle.std.proofs.Common.{◌≡◌, Bool, true, false, cond, nat_lt, nat_le, ◌&&◌, List, [], ◌∷◌, Option, Some, None, find, Result, Ok, Err, IfOk, IfSome, Bor, subst, leb-true, ltb-true}
 use Rattle.std.proofs.lemmas.Bool.{and_parts}
-use Rattle.std.proofs.lemmas.Option.{same_Some}
 use Rattle.s3r_names.specs.declared.version.VersionId.{VersionId}
 use Rattle.s3r_names.specs.Version.{IsVersionId}
 use Rattle.s3r_history.specs.Words.{Name}
@@ -10,7 +9,7 @@ use Rattle.s3r_history.specs.Told.{Told}
 use Rattle.s3r_history.specs.declared.refusal.Refusal.{Refusal}
 use Rattle.s3r_versions.specs.Lookup.{is_version, is_latest}
 use Rattle.s3r_region.specs.Contents.{is_id, have_ids}
-use Rattle.s3r_desk.specs.Steps.{sought, object_of, missing, hidden}
+use Rattle.s3r_desk.specs.Steps.{sought, object_of, hidden}
 use Rattle.s3r_desk.specs.Lookups.{Finds}
 
 rule : (id : VersionId) → is_id id ≡ true → IsVersionId id

@@ -9,3 +9,5 @@ pub mod Homes
 pub mod Coming
 mod Responding
 pub mod Ids
+pub mod PlacedRules
+pub mod Leaving

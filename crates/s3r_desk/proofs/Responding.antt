@@ -16,12 +16,12 @@ use Rattle.s3r_desk.proofs.Stepping.{happens_then}
 use Rattle.s3r_desk.proofs.Homes.{all_known}
 
 -- a step finds no damage
-undamaged : (w : Image) (room : ℕ → ℕ) (at : Histories) (commits : List Commit) (reply : Answer) (events : Events) (result : Result Answer DeskFault) → Comes room at commits reply events result → IsDamage w result
-undamaged w room at commits reply events (Ok a) comes = tt
-undamaged w room at commits reply events (Err (faults.Volume v)) comes = tt
-undamaged w room at commits reply events (Err (faults.Full v)) comes = tt
-undamaged w room at commits reply events (Err (faults.Damaged v offset)) comes = absurd comes
-undamaged w room at commits reply events (Err faults.OutOfMemory) comes = tt
+undamaged : (n : ℕ) (w : Image) (room : ℕ → ℕ) (at : Histories) (commits : List Commit) (reply : Answer) (events : Events) (result : Result Answer DeskFault) → Comes room at commits reply events result → IsDamage n w result
+undamaged n w room at commits reply events (Ok a) comes = tt
+undamaged n w room at commits reply events (Err (faults.Volume v)) comes = tt
+undamaged n w room at commits reply events (Err (faults.Full v)) comes = tt
+undamaged n w room at commits reply events (Err (faults.Damaged v offset)) comes = absurd comes
+undamaged n w room at commits reply events (Err faults.OutOfMemory) comes = tt
 
 -- the fault is told of another type
 pub fails_as : (A B : Type 0) (e : DeskFault) → FailsToTouch {A = A} (Err e) → FailsToTouch {A = B} (Err e)
@@ -30,15 +30,15 @@ fails_as A B (faults.Full v) f = f
 fails_as A B (faults.Damaged v offset) f = tt
 fails_as A B faults.OutOfMemory f = tt
 
-pub damage_as : (A B : Type 0) (w : Image) (e : DeskFault) → IsDamage {A = A} w (Err e) → IsDamage {A = B} w (Err e)
-damage_as A B w (faults.Volume v) d = tt
-damage_as A B w (faults.Full v) d = tt
-damage_as A B w (faults.Damaged v offset) d = d
-damage_as A B w faults.OutOfMemory d = tt
+pub damage_as : (n : ℕ) (A B : Type 0) (w : Image) (e : DeskFault) → IsDamage {A = A} n w (Err e) → IsDamage {A = B} n w (Err e)
+damage_as n A B w (faults.Volume v) d = tt
+damage_as n A B w (faults.Full v) d = tt
+damage_as n A B w (faults.Damaged v offset) d = d
+damage_as n A B w faults.OutOfMemory d = tt
 
 module _ (before : Events) (request : Request) (room : ℕ → ℕ) (a b : List Store) (old mid : Outside) (touches : Touches before a b old mid) where
   -- a touch failed
-  pub responds_failed : (result : Result Answer DeskFault) → FailsToTouch result → IsDamage old.as_read result → Responds before request result room a b old mid
+  pub responds_failed : (result : Result Answer DeskFault) → FailsToTouch result → IsDamage (length a) old.as_read result → Responds before request result room a b old mid
   responds_failed result fails damage = record {
     events = touches.touched;
     turn = record { touched = touches.touched; rest = []; parts = refl; touches = touches.touches; steps = inr (refl, fails) };
@@ -60,7 +60,7 @@ module _ (before : Events) (request : Request) (room : ℕ → ℕ) (a b : List 
     };
     keeps = subst (λ (l : Events). Keeps l d new) (sym (append_assoc did.rest touches.touched before)) did.keeps;
     happens = happens_then (length a) touches.touched did.rest old mid new touches.happens (subst (λ (n : ℕ). Happens n did.rest mid new) same did.happens);
-    damage = undamaged old.as_read room' at (step (length b) at request).commits (step (length b) at request).reply did.rest result did.comes;
+    damage = undamaged (length a) old.as_read room' at (step (length b) at request).commits (step (length b) at request).reply did.rest result did.comes;
   }
     where
       at : Histories

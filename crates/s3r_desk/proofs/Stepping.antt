@@ -60,7 +60,7 @@ happens_none n a b looks = record {
 }
 
 -- a region's history was found
-module _ (n r : ℕ) (h : History) (a b : Outside) (looks : Looks a b) (stable : IsStable r b) (stands : StandsFor r h (b.as_read.volume r)) where
+module _ (n r : ℕ) (h : History) (a b : Outside) (looks : Looks a b) (stable : IsStable r b) (stands : StandsFor n r h (b.as_read.volume r)) where
   found_here : (c : Image) → c.volume r ≡ b.as_read.volume r → Progress n (found r h ∷ []) c c
   found_here c same = record {
     volume = λ q lt k stands_q. (
@@ -69,7 +69,7 @@ module _ (n r : ℕ) (h : History) (a b : Outside) (looks : Looks a b) (stable :
       (
         refl,
         λ e.
-            one_lawful_history r (b.as_read.volume r) k h (subst (λ (l : List ℕ). StandsFor r k l) same (subst (λ (m : ℕ). StandsFor m k (c.volume m)) (sym e) stands_q)) stands,
+            one_lawful_history n r (b.as_read.volume r) k h (subst (λ (l : List ℕ). StandsFor n r k l) same (subst (λ (m : ℕ). StandsFor n m k (c.volume m)) (sym e) stands_q)) stands,
       ),
     );
     output = refl;
@@ -84,36 +84,36 @@ module _ (n r : ℕ) (h : History) (a b : Outside) (looks : Looks a b) (stable :
   }
 
 -- a command was committed behind a history for which each image stands
-module _ (n r : ℕ) (h : History) (c : Command) (a b : Outside) (stable : IsStable r a) (stands : StandsFor r h (a.as_read.volume r)) where
-  was_h : (d : Image) → a.images d → (k : History) → StandsFor r k (d.volume r) → k ≡ h
-  was_h d was k st = one_lawful_history r (a.as_read.volume r) k h (subst (λ (l : List ℕ). StandsFor r k l) (stable d was) st) stands
+module _ (n r : ℕ) (h : History) (c : Command) (a b : Outside) (stable : IsStable r a) (stands : StandsFor n r h (a.as_read.volume r)) where
+  was_h : (d : Image) → a.images d → (k : History) → StandsFor n r k (d.volume r) → k ≡ h
+  was_h d was k st = one_lawful_history n r (a.as_read.volume r) k h (subst (λ (l : List ℕ). StandsFor n r k l) (stable d was) st) stands
 
-  either_at : (x y : Image) → ((k : History) → StandsFor r k (x.volume r) → k ≡ h) → OnVolume r (IsEither r h c) x y → (q : ℕ) → (k : History) → StandsFor q k (x.volume q) → (m : History) × StandsFor q m (y.volume q) × Leads (began r c ∷ []) q k m
+  either_at : (x y : Image) → ((k : History) → StandsFor n r k (x.volume r) → k ≡ h) → OnVolume r (IsEither n r h c) x y → (q : ℕ) → (k : History) → StandsFor n q k (x.volume q) → (m : History) × StandsFor n q m (y.volume q) × Leads (began r c ∷ []) q k m
   either_at x y is on q k st = ⊎_elim
       (λ same.
-      let at : StandsFor r k (x.volume r) = subst (λ (m : ℕ). StandsFor m k (x.volume m)) same st in
+      let at : StandsFor n r k (x.volume r) = subst (λ (m : ℕ). StandsFor n m k (x.volume m)) same st in
       let old : k ≡ h = is k at in
       ⊎_elim
-      (λ still. (h, subst (λ (m : ℕ). StandsFor m h (y.volume m)) (sym same) still, inl (sym old)))
-      (λ with. (c ∷ h, subst (λ (m : ℕ). StandsFor m (c ∷ h) (y.volume m)) (sym same) with, inr (sym same, k, refl, ap (λ (l : History). c ∷ l) (sym old))))
+      (λ still. (h, subst (λ (m : ℕ). StandsFor n m h (y.volume m)) (sym same) still, inl (sym old)))
+      (λ with. (c ∷ h, subst (λ (m : ℕ). StandsFor n m (c ∷ h) (y.volume m)) (sym same) with, inr (sym same, k, refl, ap (λ (l : History). c ∷ l) (sym old))))
       on.here)
-      (λ ne. (k, subst (λ (l : List ℕ). StandsFor q k l) (sym (on.elsewhere q ne)) st, inl refl))
+      (λ ne. (k, subst (λ (l : List ℕ). StandsFor n q k l) (sym (on.elsewhere q ne)) st, inl refl))
       (same_or_other q r)
 
-  with_at : (x y : Image) → ((k : History) → StandsFor r k (x.volume r) → k ≡ h) → OnVolume r (IsWith r h c) x y → (q : ℕ) → (k : History) → StandsFor q k (x.volume q) → (m : History) × StandsFor q m (y.volume q) × Leads (found r (c ∷ h) ∷ began r c ∷ []) q k m
+  with_at : (x y : Image) → ((k : History) → StandsFor n r k (x.volume r) → k ≡ h) → OnVolume r (IsWith n r h c) x y → (q : ℕ) → (k : History) → StandsFor n q k (x.volume q) → (m : History) × StandsFor n q m (y.volume q) × Leads (found r (c ∷ h) ∷ began r c ∷ []) q k m
   with_at x y is on q k st = ⊎_elim
       (λ same.
-      let old : k ≡ h = is k (subst (λ (m : ℕ). StandsFor m k (x.volume m)) same st) in
-      (c ∷ h, subst (λ (m : ℕ). StandsFor m (c ∷ h) (y.volume m)) (sym same) on.here, (inr (sym same, k, refl, ap (λ (l : History). c ∷ l) (sym old)), λ e. refl)))
-      (λ ne. (k, subst (λ (l : List ℕ). StandsFor q k l) (sym (on.elsewhere q ne)) st, (inl refl, λ e. absurd (ne (sym e)))))
+      let old : k ≡ h = is k (subst (λ (m : ℕ). StandsFor n m k (x.volume m)) same st) in
+      (c ∷ h, subst (λ (m : ℕ). StandsFor n m (c ∷ h) (y.volume m)) (sym same) on.here, (inr (sym same, k, refl, ap (λ (l : History). c ∷ l) (sym old)), λ e. refl)))
+      (λ ne. (k, subst (λ (l : List ℕ). StandsFor n q k l) (sym (on.elsewhere q ne)) st, (inl refl, λ e. absurd (ne (sym e)))))
       (same_or_other q r)
 
-  read_h : (k : History) → StandsFor r k (a.as_read.volume r) → k ≡ h
-  read_h k st = one_lawful_history r (a.as_read.volume r) k h st stands
+  read_h : (k : History) → StandsFor n r k (a.as_read.volume r) → k ≡ h
+  read_h k st = one_lawful_history n r (a.as_read.volume r) k h st stands
 
-  pub happens_began : (ok : Bool) → Commits r h c ok a b → Happens n (began r c ∷ []) a b
+  pub happens_began : (ok : Bool) → Commits n r h c ok a b → Happens n (began r c ∷ []) a b
   happens_began ok did = record {
-    time = elapses_weaker a b (Reached (OnVolume r (IsEither r h c)) a.images) (IsWithin n (began r c ∷ []) a.images) did.time (λ x (d, was, on). record {
+    time = elapses_weaker a b (Reached (OnVolume r (IsEither n r h c)) a.images) (IsWithin n (began r c ∷ []) a.images) did.time (λ x (d, was, on). record {
       later = [];
       earlier = began r c ∷ [];
       parts = refl;
@@ -124,9 +124,9 @@ module _ (n r : ℕ) (h : History) (c : Command) (a b : Outside) (stable : IsSta
     input = did.input;
   }
 
-  pub happens_committed : Commits r h c true a b → Happens n (found r (c ∷ h) ∷ began r c ∷ []) a b
+  pub happens_committed : Commits n r h c true a b → Happens n (found r (c ∷ h) ∷ began r c ∷ []) a b
   happens_committed did = record {
-    time = elapses_weaker a b (Reached (OnVolume r (IsEither r h c)) a.images) (IsWithin n (found r (c ∷ h) ∷ began r c ∷ []) a.images) did.time (λ x (d, was, on). record {
+    time = elapses_weaker a b (Reached (OnVolume r (IsEither n r h c)) a.images) (IsWithin n (found r (c ∷ h) ∷ began r c ∷ []) a.images) did.time (λ x (d, was, on). record {
       later = found r (c ∷ h) ∷ [];
       earlier = began r c ∷ [];
       parts = refl;

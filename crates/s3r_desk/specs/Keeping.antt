@@ -12,14 +12,14 @@ pub record AreNumbered (stores : List Store) : Type 0 where
   pub v : (r : ℕ) (s : Store) → slice_get stores r ≡ Some s → s.v ≡ r
   pub regions : (r : ℕ) (s : Store) → slice_get stores r ≡ Some s → s.regions ≡ length stores
 
--- what was read of a region is what was found last, and nothing was read where nothing is known
-abbrev pub IsHeld : Events → ℕ → Option Held → Outside → Type 0
-IsHeld events r None w = known events r ≡ None
-IsHeld events r (Some held) w = (h : History) × (known events r ≡ Some h) × Knows r held h w
+-- what was read of a region, one of n, is what was found last, and nothing was read where nothing is known
+abbrev pub IsHeld : ℕ → Events → ℕ → Option Held → Outside → Type 0
+IsHeld n events r None w = known events r ≡ None
+IsHeld n events r (Some held) w = (h : History) × (known events r ≡ Some h) × Knows n r held h w
 
 -- so it is of each store
 abbrev pub Keeps : Events → List Store → Outside → Type 0
-Keeps events stores w = (r : ℕ) (s : Store) → slice_get stores r ≡ Some s → IsHeld events r s.held w
+Keeps events stores w = (r : ℕ) (s : Store) → slice_get stores r ≡ Some s → IsHeld s.regions events r s.held w
 
 -- each store was read
 abbrev pub AreRead : List Store → Type 0

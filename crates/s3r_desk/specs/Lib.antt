@@ -4,3 +4,4 @@ pub mod Steps
 pub mod Keeping
 pub mod Lookups
 pub mod Responds
+pub mod Laws

@@ -6,13 +6,13 @@ use Rattle.s3r_history.specs.Words.{History}
 use Rattle.s3r_store.specs.Stands.{StandsFor}
 use Rattle.s3r_desk.specs.Events.{Events, Leads}
 
--- a region's volume stands for a history to which the events lead
-abbrev pub Advances : Events → ℕ → List ℕ → List ℕ → Type 0
-Advances events r old new = (h : History) → StandsFor r h old → (k : History) × StandsFor r k new × Leads events r h k
+-- a region's volume stands for a history to which the events lead; n is the number of regions
+abbrev pub Advances : ℕ → Events → ℕ → List ℕ → List ℕ → Type 0
+Advances n events r old new = (h : History) → StandsFor n r h old → (k : History) × StandsFor n r k new × Leads events r h k
 
 -- so each volume below n does, and the output is the same
 pub record Progress (n : ℕ) (events : Events) (old new : Image) : Type 0 where
-  pub volume : (r : ℕ) → r < n → Advances events r (old.volume r) (new.volume r)
+  pub volume : (r : ℕ) → r < n → Advances n events r (old.volume r) (new.volume r)
   pub output : new.output ≡ old.output
 
 -- an image after the first so many of the events

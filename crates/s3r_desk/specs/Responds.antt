@@ -1,5 +1,5 @@
 -- What the desk does at a request.
-use Rattle.std.specs.Prelude.{◌≡◌, ◌⊎◌, ℕ, ◌+◌, ◌<◌, ◌≤◌, List, [], ◌∷◌, ◌++◌, length, Option, Some, None, Result, Ok, Err, IsSome}
+use Rattle.std.specs.Prelude.{◌≡◌, ◌⊎◌, ℕ, ◌+◌, ◌<◌, ◌≤◌, List, [], ◌∷◌, ◌++◌, length, Some, None, Result, Ok, Err, IsSome}
 use Rattle.s3r_world.specs.Image.{Image}
 use Rattle.s3r_world.specs.Outside.{Outside, Looks, Counts, Rises}
 use Rattle.s3r_record.specs.declared.command.Command.{Command}
@@ -72,21 +72,21 @@ pub record IsTurn (P : ℕ → History → Type 0) (n : ℕ) (room : ℕ → ℕ
   pub steps : (AreKnown n (touched ++ before) × Steps n room (touched ++ before) request rest result) ⊎ ((rest ≡ []) × FailsToTouch result)
 
 -- what a volume's bytes stand for
-abbrev pub AsRead : Outside → ℕ → History → Type 0
-AsRead w r h = StandsFor r h (w.as_read.volume r)
+abbrev pub AsRead : ℕ → Outside → ℕ → History → Type 0
+AsRead n w r h = StandsFor n r h (w.as_read.volume r)
 
 -- damage is where the volume stands for no lawful history
-abbrev pub IsDamage : {A : Type 0} → Image → Result A DeskFault → Type 0
-IsDamage c (Ok a) = Unit {0}
-IsDamage c (Err (faults.Volume v)) = Unit {0}
-IsDamage c (Err (faults.Full v)) = Unit {0}
-IsDamage c (Err (faults.Damaged v offset)) = DamagedAt v offset (c.volume v) × ((k : History) → StandsFor v k (c.volume v) → ⊥)
-IsDamage c (Err faults.OutOfMemory) = Unit {0}
+abbrev pub IsDamage : {A : Type 0} → ℕ → Image → Result A DeskFault → Type 0
+IsDamage n c (Ok a) = Unit {0}
+IsDamage n c (Err (faults.Volume v)) = Unit {0}
+IsDamage n c (Err (faults.Full v)) = Unit {0}
+IsDamage n c (Err (faults.Damaged v offset)) = DamagedAt n v offset (c.volume v) × ((k : History) → StandsFor n v k (c.volume v) → ⊥)
+IsDamage n c (Err faults.OutOfMemory) = Unit {0}
 
 -- The regions were touched in order, up to the first fault.
 pub record Touches (before : Events) (a b : List Store) (old new : Outside) : Type 0 where
   pub touched : Events
-  pub touches : AreTouched (AsRead old) (length a) before touched
+  pub touches : AreTouched (AsRead (length a) old) (length a) before touched
   pub keeps : Keeps (touched ++ before) b new
   pub looks : Looks old new
   pub happens : Happens (length a) touched old new
@@ -94,12 +94,12 @@ pub record Touches (before : Events) (a b : List Store) (old new : Outside) : Ty
 -- A command was committed to a region of this history, or not.
 abbrev pub CommitsOne : Events → ℕ → ℕ → History → Command → ℕ → Result Committed DeskFault → List Store → Outside → Outside → Type 0
 CommitsOne before n r h c room (Ok (committed.At index)) b old new =
-    (index ≡ length h + 1) × (refusal r h c ≡ None) × (length_with r h c ≤ room) × Keeps (found r (c ∷ h) ∷ began r c ∷ before) b new × Happens n (found r (c ∷ h) ∷ began r c ∷ []) old new
-CommitsOne before n r h c room (Ok (committed.Refused why)) b old new = (refusal r h c ≡ Some why) × Keeps before b new × Happens n [] old new
-CommitsOne before n r h c room (Err (faults.Volume v)) b old new = (v ≡ r) × (refusal r h c ≡ None) × Keeps (began r c ∷ before) b new × Happens n (began r c ∷ []) old new
-CommitsOne before n r h c room (Err (faults.Full v)) b old new = (v ≡ r) × (refusal r h c ≡ None) × (room < length_with r h c) × Keeps before b new × Happens n [] old new
+    (index ≡ length h + 1) × (refusal n r h c ≡ None) × (length_with r h c ≤ room) × Keeps (found r (c ∷ h) ∷ began r c ∷ before) b new × Happens n (found r (c ∷ h) ∷ began r c ∷ []) old new
+CommitsOne before n r h c room (Ok (committed.Refused why)) b old new = (refusal n r h c ≡ Some why) × Keeps before b new × Happens n [] old new
+CommitsOne before n r h c room (Err (faults.Volume v)) b old new = (v ≡ r) × (refusal n r h c ≡ None) × Keeps (began r c ∷ before) b new × Happens n (began r c ∷ []) old new
+CommitsOne before n r h c room (Err (faults.Full v)) b old new = (v ≡ r) × (refusal n r h c ≡ None) × (room < length_with r h c) × Keeps before b new × Happens n [] old new
 CommitsOne before n r h c room (Err (faults.Damaged v offset)) b old new = ⊥
-CommitsOne before n r h c room (Err faults.OutOfMemory) b old new = (refusal r h c ≡ None) × Keeps (began r c ∷ before) b new × Happens n (began r c ∷ []) old new
+CommitsOne before n r h c room (Err faults.OutOfMemory) b old new = (refusal n r h c ≡ None) × Keeps (began r c ∷ before) b new × Happens n (began r c ∷ []) old new
 
 -- A step was made, all regions being read: whole, or its commit is in doubt, or nothing was done.
 pub record Came (before : Events) (s : Step) (result : Result Answer DeskFault) (room : ℕ → ℕ) (a b : List Store) (old new : Outside) : Type 0 where
@@ -114,15 +114,15 @@ Answers before request result room a b old new = Came before (step (length a) (h
 
 -- a command was committed to a region, and answered so
 abbrev pub Makes : Events → ℕ → Command → Reply → Result Answer DeskFault → (ℕ → ℕ) → List Store → List Store → Outside → Outside → Type 0
-Makes before r c reply result room a b old new = Came before (made_of (history_at before) (Commits r c reply)) result room a b old new
+Makes before r c reply result room a b old new = Came before (made_of (length a) (history_at before) (Commits r c reply)) result room a b old new
 
 -- The desk did this at a request.
 pub record Responds (before : Events) (request : Request) (result : Result Answer DeskFault) (room : ℕ → ℕ) (a b : List Store) (old new : Outside) : Type 0 where
   pub events : Events
-  pub turn : IsTurn (AsRead old) (length a) room before request result events
+  pub turn : IsTurn (AsRead (length a) old) (length a) room before request result events
   pub keeps : Keeps (events ++ before) b new
   pub happens : Happens (length a) events old new
-  pub damage : IsDamage old.as_read result
+  pub damage : IsDamage (length a) old.as_read result
 
 -- a fault was counted, and is told of its volume
 abbrev pub HasCause : {A : Type 0} → ℕ → Result A DeskFault → Counts → Counts → Type 0

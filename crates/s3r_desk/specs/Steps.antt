@@ -1,11 +1,17 @@
 -- What each request comes to, by the histories of all regions.
-use Rattle.std.specs.Prelude.{ℕ, zero, suc, ◌+◌, ◌<◌, ◌≤◌, ◌==◌, Bool, true, false, nat_lt, List, [], ◌∷◌, ◌++◌, length, Option, Some, None, Result, Ok, Err, is_some, if◌then◌else◌, IsTrue}
+use Rattle.std.specs.Prelude.{ℕ, zero, suc, ◌+◌, ◌<◌, ◌≤◌, ◌==◌, Bool, true, false, nat_lt, map, List, [], ◌∷◌, ◌++◌, length, Option, Some, None, Result, Ok, Err, is_some, if◌then◌else◌, IsTrue}
 use Rattle.s3r_names.specs.declared.version.VersionId.{VersionId}
 use Rattle.s3r_names.specs.Version.{IsVersionId}
 use Rattle.s3r_names.specs.Tags.{is_tag_set}
+use Rattle.std.specs.Str.{bytes_eq}
+use Rattle.s3r_names.specs.Bucket.{is_bucket_name}
+use Rattle.s3r_rules.specs.Rules.{is_config}
+use Rattle.s3r_rules.specs.declared.rule.Rule.{Rule}
+use Rattle.s3r_rules.specs.declared.fault.Kind.{Kind}
+use Rattle.s3r_rules.specs.declared.fault.Kind.TheVariants as kind
 use Rattle.s3r_record.specs.declared.command.Command.{Command}
 use Rattle.s3r_record.specs.declared.command.Command.TheVariants as command
-use Rattle.s3r_record.specs.Spelling.{IsCommand}
+use Rattle.s3r_record.specs.Spelling.{IsCommand, fits_record}
 use Rattle.s3r_versions.specs.Lookup.{find_version, latest}
 use Rattle.s3r_versions.specs.Listing.{is_place_there, listing}
 use Rattle.s3r_versions.specs.declared.listing.Place.{Place}
@@ -13,6 +19,7 @@ use Rattle.s3r_history.specs.Words.{Name, History}
 use Rattle.s3r_history.specs.Past.{Entry}
 use Rattle.s3r_history.specs.Told.{Told, told}
 use Rattle.s3r_history.specs.Accepts.{refusal}
+use Rattle.s3r_history.specs.declared.replication.Replication.{Replication}
 use Rattle.s3r_history.specs.declared.refusal.Refusal.{Refusal}
 use Rattle.s3r_history.specs.declared.refusal.Refusal.TheVariants as refusals
 use Rattle.s3r_store.specs.Commits.{length_with}
@@ -124,12 +131,65 @@ deletion b key (Some id) h = removal h b key id (find_version key id h.told.rows
 abbrev pub tags_reply : Bool → VersionId → Reply
 tags_reply gone id = if gone then Is (answer.Gone (Some id) false) else Is (answer.Written id)
 
+-- ---- replication, where each name has this home
+
+-- what is wrong with a destination
+abbrev pub kind_there : Option Home → Option Kind
+kind_there None = Some kind.NoDestination
+kind_there (Some h) = if h.told.enabled then None else Some kind.DestinationNotVersioned
+
+-- what is wrong with a rule of the bucket b: its destination is b itself, or isn't there, or its versioning is Suspended
+abbrev pub wrong_rule : (Name → Option Home) → Name → Rule → Option Kind
+wrong_rule at b rule = if bytes_eq rule.bucket b then Some kind.SameBucket else kind_there (at rule.bucket)
+
+abbrev pub or_wrong : ℕ → Option Kind → Option Refusal → Option Refusal
+or_wrong k None later = later
+or_wrong k (Some what) later = Some (refusals.InvalidRequest k what)
+
+-- the first rule that is wrong, where they are counted from k on
+abbrev pub first_wrong : (Rule → Option Kind) → ℕ → List Rule → Option Refusal
+first_wrong wrong k [] = None
+first_wrong wrong k (rule ∷ rules) = or_wrong k (wrong rule) (first_wrong wrong (k + 1) rules)
+
+-- why the bucket b can't have the configuration
+abbrev pub not_taken : (Name → Option Home) → Name → List Rule → Home → Option Refusal
+not_taken at b rules h = if h.told.enabled then first_wrong (wrong_rule at b) 1 rules else Some refusals.InvalidBucketState
+
+abbrev pub region_of : Option Home → ℕ
+region_of None = 0
+region_of (Some h) = h.region
+
+-- the region of each rule's destination
+abbrev pub regions_of : (Name → Option Home) → List Rule → List ℕ
+regions_of at rules = map (λ (rule : Rule). region_of (at rule.bucket)) rules
+
+abbrev pub unless_refused : Plan → Option Refusal → Plan
+unless_refused plan None = plan
+unless_refused plan (Some why) = refuses why
+
+abbrev pub replication : (Name → Option Home) → Name → List Rule → Home → Plan
+replication at b rules h = unless_refused (commits_at h (command.SetReplication b rules (regions_of at rules)) (Is answer.Done)) (not_taken at b rules h)
+
+abbrev pub configuration : Option Replication → Plan
+configuration None = refuses refusals.NoReplication
+configuration (Some r) = Shows (answer.Configuration r.config)
+
+-- a configuration is taken away where there is one
+abbrev pub dropping : Name → Home → Option Replication → Plan
+dropping b h None = Shows (answer.Gone None false)
+dropping b h (Some r) = commits_at h (command.DropReplication b) (Is (answer.Gone None false))
+
+-- ---- each request
+
 abbrev pub plan : ℕ → Views → Request → Plan
 plan n views (request.CreateBucket name region locked) = creation n name locked (home n views name) region
 plan n views (request.HeadBucket name) = at_home (λ h. Shows answer.Done) (home n views name)
 plan n views (request.DeleteBucket name) = at_home (λ h. commits_at h (command.DeleteBucket name) (Is (answer.Gone None false))) (home n views name)
 plan n views (request.PutVersioning name enabled) = at_home (λ h. commits_at h (command.SetVersioning name enabled) (Is answer.Done)) (home n views name)
 plan n views (request.GetVersioning name) = at_home (λ h. Shows (answer.Versioning h.told.enabled)) (home n views name)
+plan n views (request.PutReplication name config) = at_home (replication (home n views) name config) (home n views name)
+plan n views (request.GetReplication name) = at_home (λ h. configuration h.told.config) (home n views name)
+plan n views (request.DeleteReplication name) = at_home (λ h. dropping name h h.told.config) (home n views name)
 plan n views (request.ListVersions name prefix after limit) = at_home (λ h. page prefix after limit h.told) (home n views name)
 plan n views (request.PutObject b key body tags hold class) = at_home (λ h. commits_at h (command.Put b key tags hold class body) Written) (home n views b)
 plan n views (request.GetObject b key version) = at_home (λ h. shown version h.told.locked (sought key version h.told)) (home n views b)
@@ -161,8 +221,8 @@ abbrev pub commits_unless : Option Refusal → Commit → Answer → Step
 commits_unless None commit reply = record { commits = commit ∷ []; reply = reply }
 commits_unless (Some why) commit reply = answers (answer.Refused why)
 
-abbrev pub commits_to : Histories → ℕ → Command → Answer → Step
-commits_to at r c reply = commits_unless (refusal r (at r) c) (record { region = r; command = c }) reply
+abbrev pub commits_to : ℕ → Histories → ℕ → Command → Answer → Step
+commits_to n at r c reply = commits_unless (refusal n r (at r) c) (record { region = r; command = c }) reply
 
 -- the answer to a commit of this index in its region's history
 abbrev pub reply_at : ℕ → ℕ → Reply → Answer
@@ -170,16 +230,16 @@ reply_at r index (Is reply) = reply
 reply_at r index Written = answer.Written (record { region = r; index = index })
 reply_at r index Marked = answer.Gone (Some (record { region = r; index = index })) true
 
-abbrev pub made_of : Histories → Plan → Step
-made_of at (Shows reply) = answers reply
-made_of at (Commits r c reply) = commits_to at r c (reply_at r (length (at r) + 1) reply)
+abbrev pub made_of : ℕ → Histories → Plan → Step
+made_of n at (Shows reply) = answers reply
+made_of n at (Commits r c reply) = commits_to n at r c (reply_at r (length (at r) + 1) reply)
 
 -- what the histories tell of buckets
 abbrev pub views : Histories → Views
 views at r b = told r (at r) b
 
 abbrev pub step : ℕ → Histories → Request → Step
-step n at request = made_of at (plan n (views at) request)
+step n at request = made_of n at (plan n (views at) request)
 
 -- an id that is named meets its rule
 abbrev pub IsNamed : Option VersionId → Type 0
@@ -193,6 +253,9 @@ IsRequest (request.HeadBucket name) = Unit {0}
 IsRequest (request.DeleteBucket name) = IsCommand (command.DeleteBucket name)
 IsRequest (request.PutVersioning name enabled) = IsCommand (command.SetVersioning name enabled)
 IsRequest (request.GetVersioning name) = Unit {0}
+IsRequest (request.PutReplication name config) = IsTrue (is_bucket_name name) × IsTrue (is_config config) × IsTrue (fits_record name config)
+IsRequest (request.GetReplication name) = Unit {0}
+IsRequest (request.DeleteReplication name) = IsTrue (is_bucket_name name)
 IsRequest (request.ListVersions name prefix after limit) = 1 ≤ limit
 IsRequest (request.PutObject b key body tags hold class) = IsCommand (command.Put b key tags hold class body)
 IsRequest (request.GetObject b key version) = Unit {0}

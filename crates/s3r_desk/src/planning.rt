@@ -9,6 +9,7 @@ ghost use Rattle.s3r_desk.specs.Lookups.{views_of, seen_home, region_in, Finds};
 
 use crate::finding::home_of;
 use crate::home::Home;
+use crate::replicating::{delete_replication, get_replication, put_replication};
 use crate::{Answer, Request};
 use s3r_history::Refusal;
 use s3r_names::{BucketName, Bytes, Key, TagSet, Text, VersionId};
@@ -41,7 +42,7 @@ pub enum Reply {
     Marked,
 }
 
-fn refuses(why: Refusal) -> Plan
+pub(crate) fn refuses(why: Refusal) -> Plan
     ensures { result ≡ refuses why }
 {
     Plan::Shows(Answer::Refused(why))
@@ -394,7 +395,8 @@ fn get_hold(home: Option<Home<'_>>, key: Key, version: Option<VersionId>) -> Pla
 
 /// What the request comes to, by what the stores tell of its bucket. The error is want of memory.
 pub fn plan_of(alloc: Global, stores: &[Store], request: Request) -> Result<Plan, AllocError>
-    requires { IsRequest request }
+    requires few { length stores.now ≤ 8 }
+    requires fits { IsRequest request }
     ensures planned { IfOk result (λ p. p ≡ plan (length stores.now) (views_of stores.now) request) }
     ensures fits { IfOk result (λ p. FitsIn (length stores.now) p) }
 {
@@ -419,6 +421,12 @@ pub fn plan_of(alloc: Global, stores: &[Store], request: Request) -> Result<Plan
             Ok(commits(home, command, Reply::Is(Answer::Done)))
         }
         Request::GetVersioning { name } => Ok(versioning(home_of(stores, &name))),
+        Request::PutReplication { name, config } => put_replication(alloc, stores, name, config),
+        Request::GetReplication { name } => get_replication(home_of(stores, &name)),
+        Request::DeleteReplication { name } => {
+            let home = home_of(stores, &name);
+            Ok(delete_replication(home, name))
+        }
         Request::ListVersions {
             name,
             prefix,

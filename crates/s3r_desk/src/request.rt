@@ -1,6 +1,7 @@
 //! What is asked of the desk, and what it answers.
 use s3r_history::Refusal;
 use s3r_names::{BucketName, Bytes, ClassName, Key, TagSet, Text, VersionId};
+use s3r_rules::Config;
 use s3r_versions::{Listing, Place};
 
 /// A request, read and not looked at further. A version that isn't named is the latest of the key. A body has at most
@@ -26,6 +27,18 @@ pub enum Request {
         enabled: bool,
     },
     GetVersioning {
+        name: BucketName,
+    },
+    /// The bucket is copied by these rules from now on.
+    PutReplication {
+        name: BucketName,
+        config: Config,
+    },
+    GetReplication {
+        name: BucketName,
+    },
+    /// The bucket is copied no more.
+    DeleteReplication {
         name: BucketName,
     },
     /// The first versions and markers whose keys begin with the prefix, behind a place: at most `limit`, which is at
@@ -94,7 +107,7 @@ pub enum Answer {
     Done,
     /// The version was written, or its tags or hold were.
     Written(VersionId),
-    /// A bucket, a version or its tags are gone, or a marker was written. `marker` says that the version is one.
+    /// A bucket, its configuration, a version or its tags are gone, or a marker was written. `marker` says that the version is one.
     Gone {
         id: Option<VersionId>,
         marker: bool,
@@ -118,5 +131,7 @@ pub enum Answer {
     Hold(bool),
     /// Whether versioning is Enabled.
     Versioning(bool),
+    /// The rules by which a bucket is copied.
+    Configuration(Config),
     Listing(Listing),
 }

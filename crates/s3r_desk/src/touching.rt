@@ -25,7 +25,7 @@ fn touch_one<W: World>(alloc: Global, world: &mut W, store: &mut Store) -> Resul
     ensures v { store.new.v ≡ store.old.v }
     ensures regions { store.new.regions ≡ store.old.regions }
     ensures fails { OnErr result (FailsToTouch result) }
-    ensures damage { IsTrue W.tells → IsDamage (W.outside world.old).as_read result }
+    ensures damage { IsTrue W.tells → IsDamage store.old.regions (W.outside world.old).as_read result }
     ensures cause { HasCause (store.old.v + 1) result (W.faults world.old) (W.faults world.new) }
     ensures counts { NoneFalls (W.faults world.old) (W.faults world.new) }
     ensures goes { W.goes world.old world.new }
@@ -60,7 +60,7 @@ pub fn touch_all<W: World>(
     ensures count { length stores.new.items ≡ length stores.old.items }
     ensures numbered { AreNumbered stores.new.items }
     ensures fails { OnErr result (FailsToTouch result) }
-    ensures damage { IsTrue W.tells → IsDamage (W.outside world.old).as_read result }
+    ensures damage { IsTrue W.tells → IsDamage (length stores.old.items) (W.outside world.old).as_read result }
     ensures cause { HasCause (length stores.old.items) result (W.faults world.old) (W.faults world.new) }
     ensures counts { NoneFalls (W.faults world.old) (W.faults world.new) }
     ensures goes { W.goes world.old world.new }

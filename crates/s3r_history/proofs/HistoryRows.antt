@@ -9,6 +9,7 @@ use Rattle.s3r_names.specs.declared.tags.Tag.{Tag}
 use Rattle.s3r_names.specs.declared.version.VersionId.{VersionId}
 use Rattle.s3r_record.specs.declared.command.Command.{Command}
 use Rattle.s3r_record.specs.declared.command.Command.TheVariants as command
+use Rattle.s3r_rules.specs.declared.rule.Rule.{Rule}
 use Rattle.s3r_versions.specs.Order.{is_listed}
 use Rattle.s3r_versions.specs.Lookup.{is_version, find_version, has_each_once}
 use Rattle.s3r_versions.specs.Contents.{with_row, without_version, if_version, on_version, with_tags, with_hold, KeepsPlace}
@@ -188,19 +189,28 @@ rows-create r h b name locked = go (bytes_eq name b) refl
         ∙ ap (map (written b (deed r (deeds r h) (command.CreateBucket name locked)))) (kept-all b (command.CreateBucket name locked) (λ k i. refl) (rows (deeds r h) b))
         ∙ unwritten b (deed r (deeds r h) (command.CreateBucket name locked)) (λ k i. refl) (λ k i. refl) (rows (deeds r h) b)
 
+-- a command that writes no row, nor removes one, nor adds one
+rows-same : (r : ℕ) (h : History) (b : Name) (c : Command) → creates b c ≡ false → (deed r (deeds r h) c).adds ≡ None → ((key : Name) (id : VersionId) → removes b key id c ≡ false)
+    → ((stamp : Stamp) (key : Name) (id : VersionId) → tag_write b key id stamp c ≡ None) → ((stamp : Stamp) (key : Name) (id : VersionId) → hold_write b key id stamp c ≡ None)
+    → rows (deeds r (c ∷ h)) b ≡ rows (deeds r h) b
+rows-same r h b c goes_on adds none tags hold =
+    let d = deed r (deeds r h) c in
+    rows-step r h b c goes_on
+    ∙ ap (λ o. added b o (map (written b d) (kept_by b c (rows (deeds r h) b)))) adds
+    ∙ ap (map (written b d)) (kept-all b c none (rows (deeds r h) b))
+    ∙ unwritten b d (λ k i. tags d.stamp k i) (λ k i. hold d.stamp k i) (rows (deeds r h) b)
+
 pub rows-delete : (r : ℕ) (h : History) (b name : Name) → rows (deeds r (command.DeleteBucket name ∷ h)) b ≡ rows (deeds r h) b
-rows-delete r h b name =
-    let c = command.DeleteBucket name in
-    rows-step r h b c refl
-    ∙ ap (map (written b (deed r (deeds r h) c))) (kept-all b c (λ k i. refl) (rows (deeds r h) b))
-    ∙ unwritten b (deed r (deeds r h) c) (λ k i. refl) (λ k i. refl) (rows (deeds r h) b)
+rows-delete r h b name = rows-same r h b (command.DeleteBucket name) refl refl (λ k i. refl) (λ s k i. refl) (λ s k i. refl)
 
 pub rows-switch : (r : ℕ) (h : History) (b name : Name) (enabled : Bool) → rows (deeds r (command.SetVersioning name enabled ∷ h)) b ≡ rows (deeds r h) b
-rows-switch r h b name enabled =
-    let c = command.SetVersioning name enabled in
-    rows-step r h b c refl
-    ∙ ap (map (written b (deed r (deeds r h) c))) (kept-all b c (λ k i. refl) (rows (deeds r h) b))
-    ∙ unwritten b (deed r (deeds r h) c) (λ k i. refl) (λ k i. refl) (rows (deeds r h) b)
+rows-switch r h b name enabled = rows-same r h b (command.SetVersioning name enabled) refl refl (λ k i. refl) (λ s k i. refl) (λ s k i. refl)
+
+pub rows-replicate : (r : ℕ) (h : History) (b name : Name) (config : List Rule) (regions : List ℕ) → rows (deeds r (command.SetReplication name config regions ∷ h)) b ≡ rows (deeds r h) b
+rows-replicate r h b name config regions = rows-same r h b (command.SetReplication name config regions) refl refl (λ k i. refl) (λ s k i. refl) (λ s k i. refl)
+
+pub rows-drop : (r : ℕ) (h : History) (b name : Name) → rows (deeds r (command.DropReplication name ∷ h)) b ≡ rows (deeds r h) b
+rows-drop r h b name = rows-same r h b (command.DropReplication name) refl refl (λ k i. refl) (λ s k i. refl) (λ s k i. refl)
 
 removes_those : (t : Bool) (key : Name) (id : VersionId) (rs : List Entry) → filter (λ (v : Entry). not (t && is_version key id v)) rs ≡ cond t (without_version key id rs) rs
 removes_those true key id rs = refl

@@ -5,15 +5,17 @@ use Rattle.s3r_names.specs.declared.stamp.Stamp.{Stamp}
 use Rattle.s3r_names.specs.declared.tags.Tag.{Tag}
 use Rattle.s3r_names.specs.declared.version.VersionId.{VersionId}
 use Rattle.s3r_record.specs.declared.command.Command.TheVariants as command
+use Rattle.s3r_rules.specs.declared.rule.Rule.{Rule}
 use Rattle.s3r_versions.specs.Contents.{with_row, without_version, on_version, with_tags, with_hold}
 use Rattle.s3r_versions.specs.Removed.{with_id}
+use Rattle.s3r_history.specs.declared.replication.Replication.{Replication}
 use Rattle.s3r_history.specs.Words.{Name, History, newest, or_else}
-use Rattle.s3r_history.specs.Buckets.{Birth, Bucket, switches, since_birth, birth, bucket, flat, is_enabled, begins_or_ends}
+use Rattle.s3r_history.specs.Buckets.{Birth, Bucket, switches, configures, since_birth, birth, bucket, flat, is_enabled, configuration, begins_or_ends}
 use Rattle.s3r_history.specs.Past.{Entry}
 use Rattle.s3r_history.specs.Deeds.{deeds, next_stamp, version, marker}
 use Rattle.s3r_history.specs.Rows.{rows, removed, with_removed}
 use Rattle.s3r_history.specs.Told.{Told, told}
-use Rattle.s3r_history.proofs.HistoryRows.{rows-put, rows-marker, rows-create, rows-delete, rows-switch, rows-remove, rows-tags, rows-hold}
+use Rattle.s3r_history.proofs.HistoryRows.{rows-put, rows-marker, rows-create, rows-delete, rows-switch, rows-replicate, rows-drop, rows-remove, rows-tags, rows-hold}
 
 -- what is told of a name, where what is told of one name has changed
 abbrev pub changed_at : Name → (Told → Told) → (Name → Option Told) → Name → Option Told
@@ -35,8 +37,11 @@ write_hold key id stamp hold t = record t { rows = on_version key id (with_hold 
 abbrev pub switch : Bool → Told → Told
 switch enabled t = record t { enabled = enabled }
 
+abbrev pub configure : Option Replication → Told → Told
+configure config t = record t { config = config }
+
 abbrev shown : Option Bucket → List Entry → List VersionId → Option Told
-shown at rs ids = option_map (λ (a : Bucket). record { locked = a.locked; enabled = a.enabled; rows = rs; removed = ids }) at
+shown at rs ids = option_map (λ (a : Bucket). record { locked = a.locked; enabled = a.enabled; config = a.config; rows = rs; removed = ids }) at
 
 pub told-put : (r : ℕ) (h : History) (name key : Name) (tags : List Tag) (hold : Bool) (class body : List ℕ) (b : Name)
     → told r (command.Put name key tags hold class body ∷ h) b ≡ changed_at name (add_row (version (next_stamp r (deeds r h)) key tags hold class body)) (told r h) b
@@ -97,25 +102,45 @@ told-switch r h name enabled b =
     ap (λ rs. shown (bucket (command.SetVersioning name enabled ∷ h) b) rs (removed (deeds r h) b)) (rows-switch r h b name enabled) ∙ go (bytes_eq name b) (birth h b)
   where
     go : (t : Bool) (at : Option Birth)
-        → shown (option_map (λ (a : Birth). record { birth = a.place; locked = a.locked; enabled = unwrap_or (or_else (cond t (Some enabled) None) (newest (switches b) (since_birth b h))) true }) at) (rows (deeds r h) b) (removed (deeds r h) b)
-        ≡ cond t (option_map (switch enabled) (shown (option_map (λ (a : Birth). record { birth = a.place; locked = a.locked; enabled = is_enabled h b }) at) (rows (deeds r h) b) (removed (deeds r h) b)))
-        (shown (option_map (λ (a : Birth). record { birth = a.place; locked = a.locked; enabled = is_enabled h b }) at) (rows (deeds r h) b) (removed (deeds r h) b))
+        → shown (option_map (λ (a : Birth). record { birth = a.place; locked = a.locked; enabled = unwrap_or (or_else (cond t (Some enabled) None) (newest (switches b) (since_birth b h))) true; config = configuration h b }) at) (rows (deeds r h) b) (removed (deeds r h) b)
+        ≡ cond t (option_map (switch enabled) (shown (option_map (λ (a : Birth). record { birth = a.place; locked = a.locked; enabled = is_enabled h b; config = configuration h b }) at) (rows (deeds r h) b) (removed (deeds r h) b)))
+        (shown (option_map (λ (a : Birth). record { birth = a.place; locked = a.locked; enabled = is_enabled h b; config = configuration h b }) at) (rows (deeds r h) b) (removed (deeds r h) b))
     go true None = refl
     go true (Some a) = refl
     go false at = refl
+
+-- a bucket that is given this configuration, or none
+configured : (h : History) (b : Name) (config : Option Replication) (rs : List Entry) (ids : List VersionId) (t : Bool) (at : Option Birth)
+    → shown (option_map (λ (a : Birth). record { birth = a.place; locked = a.locked; enabled = is_enabled h b; config = flat (or_else (cond t (Some config) None) (newest (configures b) (since_birth b h))) }) at) rs ids
+    ≡ cond t (option_map (configure config) (shown (option_map (λ (a : Birth). record { birth = a.place; locked = a.locked; enabled = is_enabled h b; config = configuration h b }) at) rs ids))
+    (shown (option_map (λ (a : Birth). record { birth = a.place; locked = a.locked; enabled = is_enabled h b; config = configuration h b }) at) rs ids)
+configured h b config rs ids true None = refl
+configured h b config rs ids true (Some a) = refl
+configured h b config rs ids false at = refl
+
+pub told-replicate : (r : ℕ) (h : History) (name : Name) (config : List Rule) (regions : List ℕ) (b : Name)
+    → told r (command.SetReplication name config regions ∷ h) b ≡ changed_at name (configure (Some (record { config = config; regions = regions }))) (told r h) b
+told-replicate r h name config regions b =
+    ap (λ rs. shown (bucket (command.SetReplication name config regions ∷ h) b) rs (removed (deeds r h) b)) (rows-replicate r h b name config regions)
+    ∙ configured h b (Some (record { config = config; regions = regions })) (rows (deeds r h) b) (removed (deeds r h) b) (bytes_eq name b) (birth h b)
+
+pub told-drop : (r : ℕ) (h : History) (name b : Name) → told r (command.DropReplication name ∷ h) b ≡ changed_at name (configure None) (told r h) b
+told-drop r h name b =
+    ap (λ rs. shown (bucket (command.DropReplication name ∷ h) b) rs (removed (deeds r h) b)) (rows-drop r h b name)
+    ∙ configured h b None (rows (deeds r h) b) (removed (deeds r h) b) (bytes_eq name b) (birth h b)
 
 pub told-delete : (r : ℕ) (h : History) (name b : Name) → told r (command.DeleteBucket name ∷ h) b ≡ cond (bytes_eq name b) None (told r h b)
 told-delete r h name b =
     ap (λ rs. shown (bucket (command.DeleteBucket name ∷ h) b) rs (removed (deeds r h) b)) (rows-delete r h b name) ∙ go (bytes_eq name b)
   where
-    go : (t : Bool) → shown (option_map (λ (a : Birth). record { birth = a.place; locked = a.locked; enabled = is_enabled h b }) (flat (or_else (cond t (Some None) None) (newest (begins_or_ends b) h)))) (rows (deeds r h) b) (removed (deeds r h) b)
+    go : (t : Bool) → shown (option_map (λ (a : Birth). record { birth = a.place; locked = a.locked; enabled = is_enabled h b; config = configuration h b }) (flat (or_else (cond t (Some None) None) (newest (begins_or_ends b) h)))) (rows (deeds r h) b) (removed (deeds r h) b)
         ≡ cond t None (told r h b)
     go true = refl
     go false = refl
 
 -- a bucket as it is created
 abbrev pub new_told : Bool → Told
-new_told locked = record { locked = locked; enabled = true; rows = []; removed = [] }
+new_told locked = record { locked = locked; enabled = true; config = None; rows = []; removed = [] }
 
 pub told-create : (r : ℕ) (h : History) (name : Name) (locked : Bool) (b : Name) → told r (command.CreateBucket name locked ∷ h) b ≡ cond (bytes_eq name b) (Some (new_told locked)) (told r h b)
 told-create r h name locked b =

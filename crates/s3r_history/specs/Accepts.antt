@@ -1,5 +1,5 @@
 -- Which commands a history accepts.
-use Rattle.std.specs.Prelude.{◌≡◌, ℕ, Bool, true, false, ◌&&◌, not, nat_le, List, [], ◌∷◌, Option, Some, None, if◌then◌else◌, is_some, length}
+use Rattle.std.specs.Prelude.{◌≡◌, ℕ, Bool, true, false, ◌&&◌, ◌||◌, not, nat_le, List, [], ◌∷◌, Option, Some, None, if◌then◌else◌, find, is_some, length}
 use Rattle.s3r_names.specs.declared.version.VersionId.{VersionId}
 use Rattle.s3r_record.specs.declared.command.Command.{Command}
 use Rattle.s3r_record.specs.declared.command.Command.TheVariants as command
@@ -41,9 +41,24 @@ of_creation at count = (is_some at, refusals.BucketAlreadyExists) ∷ (nat_le 10
 abbrev pub of_deletion : Told → List Cause
 of_deletion at = (has_rows at.rows, refusals.BucketNotEmpty) ∷ []
 
--- versioning isn't switched off under Object Lock
+-- versioning isn't switched off under Object Lock, nor where a configuration needs it
 abbrev pub of_switch : Bool → Told → List Cause
-of_switch enabled at = (not enabled && at.locked, refusals.InvalidBucketState) ∷ []
+of_switch enabled at = (not enabled && (is_some at.config || at.locked), refusals.InvalidBucketState) ∷ []
+
+-- the first region of a rule that isn't there, where there are n regions
+abbrev pub beyond : ℕ → List ℕ → Option ℕ
+beyond n regions = find (λ r. nat_le n r) regions
+
+-- the causes behind that of such a region
+abbrev pub unless_beyond : List Cause → Option ℕ → List Cause
+unless_beyond more None = more
+unless_beyond more (Some r) = (true, refusals.NoSuchRegion r) ∷ []
+
+abbrev pub of_configuration : Told → List Cause
+of_configuration at = (not at.enabled, refusals.InvalidBucketState) ∷ []
+
+abbrev pub of_dropping : Told → List Cause
+of_dropping at = (not (is_some at.config), refusals.NoReplication) ∷ []
 
 abbrev pub of_put : Bool → Told → List Cause
 of_put hold at = (not at.enabled, refusals.InvalidBucketState) ∷ (hold && not at.locked, refusals.LockNeeded) ∷ []
@@ -66,22 +81,24 @@ of_tags key id at = in_version of_a_marker (find_version key id at.rows)
 abbrev pub of_hold : Name → VersionId → Told → List Cause
 of_hold key id at = (not at.locked, refusals.LockNeeded) ∷ in_version of_a_marker (find_version key id at.rows)
 
--- why a command may be refused, in order, by what is told of buckets and by how many there are
-abbrev pub causes : (Name → Option Told) → ℕ → Command → List Cause
-causes at count (command.CreateBucket name locked) = of_creation (at name) count
-causes at count (command.DeleteBucket name) = in_bucket of_deletion (at name)
-causes at count (command.SetVersioning name enabled) = in_bucket (of_switch enabled) (at name)
-causes at count (command.Put b key tags hold class body) = in_bucket (of_put hold) (at b)
-causes at count (command.Marker b key) = in_bucket of_marker (at b)
-causes at count (command.Remove b key id) = in_bucket (of_removal key id) (at b)
-causes at count (command.SetTags b key id tags) = in_bucket (of_tags key id) (at b)
-causes at count (command.SetHold b key id hold) = in_bucket (of_hold key id) (at b)
+-- why a command may be refused, in order, where there are n regions, by what is told of buckets and by how many there are
+abbrev pub causes : ℕ → (Name → Option Told) → ℕ → Command → List Cause
+causes n at count (command.CreateBucket name locked) = of_creation (at name) count
+causes n at count (command.DeleteBucket name) = in_bucket of_deletion (at name)
+causes n at count (command.SetVersioning name enabled) = in_bucket (of_switch enabled) (at name)
+causes n at count (command.SetReplication name config regions) = unless_beyond (in_bucket of_configuration (at name)) (beyond n regions)
+causes n at count (command.DropReplication name) = in_bucket of_dropping (at name)
+causes n at count (command.Put b key tags hold class body) = in_bucket (of_put hold) (at b)
+causes n at count (command.Marker b key) = in_bucket of_marker (at b)
+causes n at count (command.Remove b key id) = in_bucket (of_removal key id) (at b)
+causes n at count (command.SetTags b key id tags) = in_bucket (of_tags key id) (at b)
+causes n at count (command.SetHold b key id hold) = in_bucket (of_hold key id) (at b)
 
--- how the command is refused after region r's history h; None where it is accepted
-abbrev pub refusal : ℕ → History → Command → Option Refusal
-refusal r h c = first_of_causes (causes (told r h) (length (names h)) c)
+-- how the command is refused after the history h of region r, of n regions; None where it is accepted
+abbrev pub refusal : (n r : ℕ) → History → Command → Option Refusal
+refusal n r h c = first_of_causes (causes n (told r h) (length (names h)) c)
 
 -- each command meets its fields' rules and is accepted by the history before it
-abbrev pub IsLawful : ℕ → History → Type 0
-IsLawful r [] = Unit {0}
-IsLawful r (c ∷ h) = IsCommand c × (refusal r h c ≡ None) × IsLawful r h
+abbrev pub IsLawful : (n r : ℕ) → History → Type 0
+IsLawful n r [] = Unit {0}
+IsLawful n r (c ∷ h) = IsCommand c × (refusal n r h c ≡ None) × IsLawful n r h

@@ -3,6 +3,8 @@
 
 mod laws;
 mod refusal;
+mod replication;
 
 pub use laws::{buckets_are_counted, rows_are_listed};
 pub use refusal::Refusal;
+pub use replication::Replication;

@@ -1,7 +1,9 @@
 //! Why a command is refused.
 
-/// Why a command, or the request that asks for it, is refused. No command is refused for `NoSuchKey` and
-/// `InvalidLocation`: they are a desk's answers.
+use s3r_rules::Kind;
+
+/// Why a command, or the request that asks for it, is refused. No command is refused for `NoSuchKey`, `InvalidLocation`
+/// and `InvalidRequest`: they are a desk's answers. No desk answers `NoSuchRegion`.
 #[derive(Clone, Copy, Debug, PartialEq, Eq)]
 pub enum Refusal {
     /// The region has no bucket of this name.
@@ -20,10 +22,16 @@ pub enum Refusal {
     AccessDenied,
     /// The bucket's versioning is Suspended, or may not be.
     InvalidBucketState,
+    /// The bucket has no configuration of replication.
+    NoReplication,
     /// A hold needs a bucket with Object Lock.
     LockNeeded,
     /// The region has as many buckets as it may have.
     TooManyBuckets,
     /// No region has this name.
     InvalidLocation,
+    /// A rule of a configuration, counted from 1, is wrong so.
+    InvalidRequest { rule: u32, kind: Kind },
+    /// There are fewer regions.
+    NoSuchRegion { region: u8 },
 }

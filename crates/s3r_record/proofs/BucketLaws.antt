@@ -4,9 +4,10 @@ use Rattle.s3r_record.specs.declared.command.Command.TheVariants as command
 use Rattle.s3r_record.specs.Spelling.{spelling, IsCommand}
 use Rattle.s3r_record.specs.BucketCommands.{create_bucket_at, delete_bucket_at, set_versioning_at}
 use Rattle.s3r_record.proofs.FieldLaws.{flag_law, bucket_name_law}
+use Rattle.s3r_record.proofs.Ruled.{Ruled}
 use Rattle.s3r_record.proofs.SeveralFields.{TakesBehind, ReadBehind, take_then, take_end, again_then, again_end}
 
-pub create_bucket_takes : TakesBehind spelling IsCommand (1 ∷ []) create_bucket_at
+pub create_bucket_takes : TakesBehind spelling Ruled (1 ∷ []) create_bucket_at
 unfolding create_bucket_at
 create_bucket_takes = take_then _ bucket_name_law (λ name named. take_then _ flag_law (λ locked _. take_end (command.CreateBucket name locked) named))
 
@@ -14,7 +15,7 @@ pub create_bucket_again : (name : List ℕ) (locked : Bool) → IsCommand (comma
 unfolding create_bucket_at
 create_bucket_again name locked fits = again_then _ bucket_name_law name fits (again_then _ flag_law locked tt (again_end (command.CreateBucket name locked)))
 
-pub delete_bucket_takes : TakesBehind spelling IsCommand (2 ∷ []) delete_bucket_at
+pub delete_bucket_takes : TakesBehind spelling Ruled (2 ∷ []) delete_bucket_at
 unfolding delete_bucket_at
 delete_bucket_takes = take_then _ bucket_name_law (λ name named. take_end (command.DeleteBucket name) named)
 
@@ -22,7 +23,7 @@ pub delete_bucket_again : (name : List ℕ) → IsCommand (command.DeleteBucket 
 unfolding delete_bucket_at
 delete_bucket_again name fits = again_then _ bucket_name_law name fits (again_end (command.DeleteBucket name))
 
-pub set_versioning_takes : TakesBehind spelling IsCommand (3 ∷ []) set_versioning_at
+pub set_versioning_takes : TakesBehind spelling Ruled (3 ∷ []) set_versioning_at
 unfolding set_versioning_at
 set_versioning_takes = take_then _ bucket_name_law (λ name named. take_then _ flag_law (λ enabled _. take_end (command.SetVersioning name enabled) named))
 

@@ -1,5 +1,5 @@
 -- The laws of all commands: what is read is spelled so, and what is spelled so is read.
-use Rattle.std.proofs.Common.{◌≡◌, ℕ, eqb, cond, List, [], ◌∷◌, ◌++◌, length, Result, Ok, Err, sym, ap, subst, ◌∙◌}
+use Rattle.std.proofs.Common.{◌≡◌, ◌≤◌, ℕ, eqb, cond, List, [], ◌∷◌, ◌++◌, length, Result, Ok, Err, sym, ap, subst, ◌∙◌}
 use Rattle.std.proofs.lemmas.Bool.{eqb-true}
 use Rattle.std.proofs.lemmas.List.{append-nil, nil_from_length}
 use Rattle.std.specs.Prelude.{IfOk}
@@ -12,23 +12,27 @@ use Rattle.s3r_record.specs.Commands.{fields_at, command_at}
 use Rattle.s3r_record.proofs.ReaderLaws.{IsBytes, IsBytes-rest, bind_ok, guard_passed, ok_is, left}
 use Rattle.s3r_record.proofs.SeveralFields.{TakesBehind, ReadBehind, take_chosen, take_none}
 use Rattle.s3r_record.proofs.BucketLaws.{create_bucket_takes, create_bucket_again, delete_bucket_takes, delete_bucket_again, set_versioning_takes, set_versioning_again}
+use Rattle.s3r_record.proofs.ReplicationLaws.{set_replication_takes, set_replication_again, drop_replication_takes, drop_replication_again}
+use Rattle.s3r_record.proofs.Ruled.{Ruled, ruled_is}
 use Rattle.s3r_record.proofs.VersionLaws.{put_takes, put_again, marker_takes, marker_again, remove_takes, remove_again, set_tags_takes, set_tags_again, set_hold_takes, set_hold_again}
 
-fields_take : (kind : ℕ) → TakesBehind spelling IsCommand (kind ∷ []) (fields_at kind)
+fields_take : (kind : ℕ) → TakesBehind spelling Ruled (kind ∷ []) (fields_at kind)
 unfolding fields_at
 fields_take kind =
     take_chosen 1 kind create_bucket_takes (
     take_chosen 2 kind delete_bucket_takes (
     take_chosen 3 kind set_versioning_takes (
+    take_chosen 4 kind set_replication_takes (
+    take_chosen 5 kind drop_replication_takes (
     take_chosen 6 kind put_takes (
     take_chosen 7 kind marker_takes (
     take_chosen 8 kind remove_takes (
     take_chosen 9 kind set_tags_takes (
     take_chosen 10 kind set_hold_takes (
-    take_none 0))))))))
+    take_none 0))))))))))
 
 -- what is read is spelled so
-pub command_takes : (bytes : List ℕ) (c : Command) → IsBytes bytes → command_at bytes ≡ Ok c → IsCommand c × (bytes ≡ spelling c)
+pub command_takes : (bytes : List ℕ) (c : Command) → IsBytes bytes → command_at bytes ≡ Ok c → Ruled c × (bytes ≡ spelling c)
 unfolding command_at
 command_takes [] c fits e = absurd cc
 command_takes (kind ∷ fields) c fits e =
@@ -37,7 +41,7 @@ command_takes (kind ∷ fields) c fits e =
     let taken = (fields_take kind).takes (left (length (kind ∷ fields)) fields) read.0 (IsBytes-rest kind fields fits) read.1 in
     let nothing : read.0.1.bytes ≡ [] = nil_from_length read.0.1.bytes (eqb-true _ _ g.0) in
     let all : (kind ∷ fields) ≡ spelling read.0.0 = taken.0.parts ∙ ap (λ (rest : List ℕ). spelling read.0.0 ++ rest) nothing ∙ append-nil (spelling read.0.0) in
-    subst (λ (c : Command). IsCommand c × ((kind ∷ fields) ≡ spelling c)) g.1 (taken.1, all)
+    subst (λ (c : Command). Ruled c × ((kind ∷ fields) ≡ spelling c)) g.1 (taken.1, all)
 
 -- fields that are read behind their command's byte are all of its spelling
 all_read : (kind : ℕ) (c : Command) → ReadBehind spelling (kind ∷ []) c (fields_at kind) → command_at (spelling c) ≡ Ok c
@@ -54,15 +58,19 @@ unfolding fields_at
 command_again (command.CreateBucket name locked) fits = all_read 1 (command.CreateBucket name locked) (create_bucket_again name locked fits)
 command_again (command.DeleteBucket name) fits = all_read 2 (command.DeleteBucket name) (delete_bucket_again name fits)
 command_again (command.SetVersioning name enabled) fits = all_read 3 (command.SetVersioning name enabled) (set_versioning_again name enabled fits)
+command_again (command.SetReplication name config regions) fits = all_read 4 (command.SetReplication name config regions) (set_replication_again name config regions fits)
+command_again (command.DropReplication name) fits = all_read 5 (command.DropReplication name) (drop_replication_again name fits)
 command_again (command.Put bucket key tags hold class bytes) fits = all_read 6 (command.Put bucket key tags hold class bytes) (put_again bucket key tags hold class bytes fits)
 command_again (command.Marker bucket key) fits = all_read 7 (command.Marker bucket key) (marker_again bucket key fits)
 command_again (command.Remove bucket key id) fits = all_read 8 (command.Remove bucket key id) (remove_again bucket key id fits)
 command_again (command.SetTags bucket key id tags) fits = all_read 9 (command.SetTags bucket key id tags) (set_tags_again bucket key id tags fits)
 command_again (command.SetHold bucket key id hold) fits = all_read 10 (command.SetHold bucket key id hold) (set_hold_again bucket key id hold fits)
 
-pub found : (bytes : List ℕ) (r : Result Command RecordFault) → IsBytes bytes → Gives (λ c. c) r (command_at bytes) → IfOk r (λ c. IsCommand c × (bytes ≡ spelling c))
-found bytes (Ok c) fits gives = command_takes bytes c fits gives
-found bytes (Err fault) fits gives = tt
+pub found : (bytes : List ℕ) (r : Result Command RecordFault) → IsBytes bytes → length bytes ≤ 16777216 → Gives (λ c. c) r (command_at bytes) → IfOk r (λ c. IsCommand c × (bytes ≡ spelling c))
+found bytes (Ok c) fits short gives =
+    let taken = command_takes bytes c fits gives in
+    (ruled_is c taken.0 (subst (λ (bytes : List ℕ). length bytes ≤ 16777216) taken.1 short), taken.1)
+found bytes (Err fault) fits short gives = tt
 
 pub only : (bytes : List ℕ) (r : Result Command RecordFault) → Gives (λ c. c) r (command_at bytes) → (c : Command) → IsCommand c → bytes ≡ spelling c → Gives (λ d. d) r (Ok c)
 only bytes r gives c fits spelled = subst (λ (read : Result Command ℕ). Gives (λ d. d) r read) (ap command_at spelled ∙ command_again c fits) gives

@@ -1,11 +1,16 @@
 -- Spellings of commands, and bytes that are none.
-use Rattle.std.proofs.Common.{◌≡◌, ℕ, true, false, List, [], ◌∷◌, ◌++◌, Result, Ok, Err, refl, codes}
+use Rattle.std.proofs.Common.{◌≡◌, ℕ, true, false, List, [], ◌∷◌, ◌++◌, None, Result, Ok, Err, refl, codes}
 use Rattle.std.specs.Str.{is_utf8, chars}
+use Rattle.s3r_rules.specs.declared.rule.Rule.{Rule}
+use Rattle.s3r_rules.specs.Reading.{rule_from}
 use Rattle.s3r_record.specs.declared.command.Command.{Command}
 use Rattle.s3r_record.specs.declared.command.Command.TheVariants as command
 use Rattle.s3r_record.specs.Spelling.{spelling, frame}
 use Rattle.s3r_record.specs.Reading.{byte_at, flag_at, sized_at, tested_at}
 use Rattle.s3r_record.specs.ReadingTags.{tag_at, tags_after, tags_at}
+use Rattle.s3r_record.specs.ReadingTexts.{option_text_at}
+use Rattle.s3r_record.specs.ReadingRules.{front_at, back_at, rule_at, rules_after, count_at, rules_at}
+use Rattle.s3r_record.specs.ReplicationCommands.{set_replication_at, drop_replication_at}
 use Rattle.s3r_record.specs.ReadingIds.{region_at, index_at, id_at}
 use Rattle.s3r_record.specs.BucketCommands.{create_bucket_at, delete_bucket_at, set_versioning_at}
 use Rattle.s3r_record.specs.VersionCommands.{put_at, marker_at, remove_at, set_tags_at, set_hold_at}
@@ -163,3 +168,34 @@ set_hold_read = refl
 other_hold : command_at (to_id 10 ++ row_id ++ 2 ∷ []) ≡ fault_at 18
 unfolding command_at fields_at set_hold_at tested_at sized_at id_at region_at index_at byte_at flag_at is_utf8 chars lib.Utf8.encode
 other_hold = refl
+
+-- ---- a configuration of bucket abc: a rule r to abc, in region 1
+
+abbrev r : Rule
+r = record { id = codes "r"; priority = 1; enabled = true; prefix = []; tags = []; markers = false; bucket = codes "abc"; class = None; replica_modifications = false }
+
+abbrev r_bytes : List ℕ
+r_bytes = 0 ∷ 1 ∷ 114 ∷ 0 ∷ 0 ∷ 0 ∷ 1 ∷ 1 ∷ 0 ∷ 0 ∷ 0 ∷ 0 ∷ 0 ∷ 3 ∷ 97 ∷ 98 ∷ 99 ∷ 1 ∷ 0 ∷ 0 ∷ []
+
+abbrev to_rules : ℕ → List ℕ
+to_rules count = 4 ∷ 0 ∷ 3 ∷ 97 ∷ 98 ∷ 99 ∷ 0 ∷ count ∷ []
+
+replication_spelled : spelling (command.SetReplication (codes "abc") (r ∷ []) (1 ∷ [])) ≡ to_rules 1 ++ r_bytes
+replication_spelled = refl
+
+replication_read : command_at (to_rules 1 ++ r_bytes) ≡ Ok (command.SetReplication (codes "abc") (r ∷ []) (1 ∷ []))
+unfolding command_at fields_at set_replication_at tested_at sized_at flag_at byte_at region_at tags_at tags_after option_text_at front_at back_at rule_at rules_after count_at rules_at rule_from is_utf8 chars lib.Utf8.encode
+replication_read = refl
+
+no_rules : command_at (to_rules 0) ≡ fault_at 6
+unfolding command_at fields_at set_replication_at tested_at sized_at count_at rules_at
+no_rules = refl
+
+-- the second rule has the first one's ID
+same_rule : command_at (to_rules 2 ++ r_bytes ++ r_bytes) ≡ fault_at 28
+unfolding command_at fields_at set_replication_at tested_at sized_at flag_at byte_at region_at tags_at tags_after option_text_at front_at back_at rule_at rules_after count_at rules_at rule_from is_utf8 chars lib.Utf8.encode
+same_rule = refl
+
+drop_read : command_at (5 ∷ 0 ∷ 3 ∷ 97 ∷ 98 ∷ 99 ∷ []) ≡ Ok (command.DropReplication (codes "abc"))
+unfolding command_at fields_at drop_replication_at tested_at sized_at
+drop_read = refl

@@ -1,6 +1,7 @@
 -- The laws of each field.
 use Rattle.std.proofs.Common.{◌≡◌, ℕ, zero, suc, ◌^◌, ◌<◌, ◌≤◌, Bool, true, false, cond, nat_le, ltb, List, [], ◌∷◌, ◌++◌, length, take, drop, Ok, Err, refl, sym, ap, subst, ◌∙◌, append_assoc, arith}
 use Rattle.std.specs.Int.{Width, w16, w32, w64, byte_len, from_be_bytes, to_be_bytes}
+use Rattle.std.specs.Str.{is_utf8}
 use Rattle.std.proofs.lemmas.Bool.{ltb-false, le-ltb, leb-true, le-leb}
 use Rattle.std.proofs.lemmas.List.{take_at, drop_at, take-append-drop, length-append, length-take}
 use Rattle.std.proofs.lemmas.Nat.{be_bytes_2, be_bytes_4, be_bytes_8, from_be_bytes-to_be_bytes_2, from_be_bytes-to_be_bytes_4, from_be_bytes-to_be_bytes_8}
@@ -12,7 +13,7 @@ use Rattle.s3r_names.proofs.Keys.{key_is}
 use Rattle.s3r_names.proofs.ClassNames.{class_is}
 use Rattle.s3r_record.specs.Fields.{sized, text, body, flag}
 use Rattle.s3r_record.specs.Reading.{Unread, place, past, number_at, byte_at, flag_at, sized_at, tested_at, is_body}
-use Rattle.s3r_record.proofs.ReaderLaws.{IsBytes, IsBytes-drop, IsBytes-take, IsBytes-rest, bind_ok, guard_passed, guard_missed, ok_is, Takes, Takes-then, left, Reads, take_field}
+use Rattle.s3r_record.proofs.ReaderLaws.{IsBytes, IsBytes-drop, IsBytes-take, IsBytes-rest, bind_ok, guard_passed, guard_missed, ok_is, Takes, Takes-then, left, Reads, Reads-as, take_field}
 
 -- ---- numbers
 
@@ -150,32 +151,49 @@ tested_passes w test u x e =
     let g = guard_passed (test read.0.0) (place u) read.0 x read.2 in
     subst (λ (y : List ℕ × Unread). test y.0 ≡ true) g.1 g.0
 
-tested_takes : (w : Width) (limit : ℕ) → IsWide w limit → (test : List ℕ → Bool) (u : Unread) (x : List ℕ × Unread) → IsBytes u.bytes → tested_at w test u ≡ Ok x → Takes u.bytes (sized w x.0) x.1.bytes × (test x.0 ≡ true)
+-- such bytes, and few enough for the width of their length
+abbrev pub Tested : (List ℕ → Bool) → ℕ → List ℕ → Type 0
+Tested test limit bytes = (test bytes ≡ true) × (length bytes < limit)
+
+tested_takes : (w : Width) (limit : ℕ) → IsWide w limit → (test : List ℕ → Bool) (u : Unread) (x : List ℕ × Unread) → IsBytes u.bytes → tested_at w test u ≡ Ok x → Takes u.bytes (sized w x.0) x.1.bytes × Tested test limit x.0
 unfolding tested_at
 tested_takes w limit wide test u x fits e =
     let t = take_field (sized_law w limit wide) (λ read. cond (test read.0) (Ok read) (Err (place u))) u x fits e in
     let g = guard_passed (test t.value) (place u) (t.value, t.rest) x t.gave in
-    subst (λ (y : List ℕ × Unread). Takes u.bytes (sized w y.0) y.1.bytes × (test y.0 ≡ true)) g.1 (t.takes, g.0)
+    subst (λ (y : List ℕ × Unread). Takes u.bytes (sized w y.0) y.1.bytes × Tested test limit y.0) g.1 (t.takes, (g.0, t.fits))
 
-tested_again : (w : Width) (limit : ℕ) → IsWide w limit → (test : List ℕ → Bool) → IsShortTest test limit
-    → (whole : ℕ) (bytes rest : List ℕ) → test bytes ≡ true → tested_at w test (left whole (sized w bytes ++ rest)) ≡ Ok (bytes, left whole rest)
+tested_again : (w : Width) (limit : ℕ) → IsWide w limit → (test : List ℕ → Bool)
+    → (whole : ℕ) (bytes rest : List ℕ) → Tested test limit bytes → tested_at w test (left whole (sized w bytes ++ rest)) ≡ Ok (bytes, left whole rest)
 unfolding tested_at
-tested_again w limit wide test short whole bytes rest passed = rw (sized_again w limit wide whole bytes rest (short bytes passed), passed) refl
+tested_again w limit wide test whole bytes rest passed = rw (sized_again w limit wide whole bytes rest passed.1, passed.0) refl
 
-pub tested_law : (w : Width) (limit : ℕ) → IsWide w limit → (test : List ℕ → Bool) → IsShortTest test limit → Reads (tested_at w test) (sized w) (λ bytes. test bytes ≡ true)
-tested_law w limit wide test short = record { takes = tested_takes w limit wide test; again = tested_again w limit wide test short }
+tested_law : (w : Width) (limit : ℕ) → IsWide w limit → (test : List ℕ → Bool) → Reads (tested_at w test) (sized w) (Tested test limit)
+tested_law w limit wide test = record { takes = tested_takes w limit wide test; again = tested_again w limit wide test }
 
-pub text_law : (test : List ℕ → Bool) → IsShortTest test (2 ^ 16) → Reads (tested_at w16 test) text (λ bytes. test bytes ≡ true)
-text_law test short = tested_law w16 (2 ^ 16) wide16 test short
+short_law : (w : Width) (limit : ℕ) → IsWide w limit → (test : List ℕ → Bool) → IsShortTest test limit → Reads (tested_at w test) (sized w) (λ bytes. test bytes ≡ true)
+short_law w limit wide test short = Reads-as (tested_law w limit wide test) (λ bytes tested. tested.0) (λ bytes passed. (passed, short bytes passed))
+
+pub text_law : (test : List ℕ → Bool) → Reads (tested_at w16 test) text (Tested test (2 ^ 16))
+text_law test = tested_law w16 (2 ^ 16) wide16 test
+
+pub short_text_law : (test : List ℕ → Bool) → IsShortTest test (2 ^ 16) → Reads (tested_at w16 test) text (λ bytes. test bytes ≡ true)
+short_text_law test short = short_law w16 (2 ^ 16) wide16 test short
+
+-- any text
+abbrev pub IsText : List ℕ → Type 0
+IsText bytes = Tested is_utf8 (2 ^ 16) bytes
+
+pub any_text_law : Reads (tested_at w16 is_utf8) text IsText
+any_text_law = text_law is_utf8
 
 pub bucket_name_law : Reads (tested_at w16 is_bucket_name) text (λ name. is_bucket_name name ≡ true)
-bucket_name_law = text_law is_bucket_name (λ name named. let s = (name_is name named).short in omega arith)
+bucket_name_law = short_text_law is_bucket_name (λ name named. let s = (name_is name named).short in omega arith)
 
 pub key_law : Reads (tested_at w16 is_key) text (λ key. is_key key ≡ true)
-key_law = text_law is_key (λ key named. let s = (key_is key named).short in omega arith)
+key_law = short_text_law is_key (λ key named. let s = (key_is key named).short in omega arith)
 
 pub class_law : Reads (tested_at w16 is_class_name) text (λ class. is_class_name class ≡ true)
-class_law = text_law is_class_name (λ class named. let s = (class_is class named).short in omega arith)
+class_law = short_text_law is_class_name (λ class named. let s = (class_is class named).short in omega arith)
 
 pub body_law : Reads (tested_at w32 is_body) body (λ bytes. is_body bytes ≡ true)
-body_law = tested_law w32 (2 ^ 32) wide32 is_body (λ bytes short. let s = leb-true (length bytes) 4194304 short in omega arith)
+body_law = short_law w32 (2 ^ 32) wide32 is_body (λ bytes short. let s = leb-true (length bytes) 4194304 short in omega arith)

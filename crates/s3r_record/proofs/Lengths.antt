@@ -1,8 +1,9 @@
 -- How long spellings are.
-use Rattle.std.proofs.Common.{◌≡◌, ℕ, ◌+◌, ◌*◌, ◌≤◌, ◌<◌, Bool, true, false, List, [], ◌∷◌, ◌++◌, length, refl, ap, arith, length-append, lit<}
+use Rattle.std.proofs.Common.{◌≡◌, ℕ, ◌+◌, ◌*◌, ◌≤◌, ◌<◌, Bool, true, false, List, [], ◌∷◌, ◌++◌, map, length, refl, ap, arith, length-append, lit<}
 use Rattle.std.specs.Int.{w16, w32, to_be_bytes}
-use Rattle.std.specs.List.{list_all, flat_map}
-use Rattle.std.proofs.lemmas.Bool.{and_parts}
+use Rattle.std.specs.List.{list_all, flat_map, zip}
+use Rattle.std.proofs.lemmas.Bool.{and_parts, leb-true}
+use Rattle.std.proofs.lemmas.List.{length-map}
 use Rattle.std.proofs.lemmas.List.Concat.{flat_map-cons}
 use Rattle.s3r_names.specs.Bucket.{is_bucket_name}
 use Rattle.s3r_names.specs.Key.{is_key}
@@ -14,10 +15,11 @@ use Rattle.s3r_names.proofs.BucketNames.{name_is}
 use Rattle.s3r_names.proofs.Keys.{key_is}
 use Rattle.s3r_names.proofs.ClassNames.{class_is}
 use Rattle.s3r_names.proofs.TagTexts.{tag_is}
+use Rattle.s3r_rules.specs.declared.rule.Rule.{Rule}
 use Rattle.s3r_record.specs.declared.command.Command.{Command}
 use Rattle.s3r_record.specs.declared.command.Command.TheVariants as command
-use Rattle.s3r_record.specs.Fields.{text, body, flag, tag_bytes, tags_bytes, id_bytes}
-use Rattle.s3r_record.specs.Spelling.{spelling, IsCommand, HasShortBody}
+use Rattle.s3r_record.specs.Fields.{text, body, flag, tag_bytes, tags_bytes, id_bytes, rule_bytes, rules_bytes}
+use Rattle.s3r_record.specs.Spelling.{spelling, IsCommand, MeetsLimits, fits_record}
 use Rattle.s3r_record.proofs.TagLaws.{set_is}
 
 -- ---- one field
@@ -79,6 +81,8 @@ pub spelling_short : (c : Command) → IsCommand c → length (spelling c) ≤ 1
 spelling_short (command.CreateBucket name locked) is = fits 1 (joined (bucket_short name is) (flag_short locked)) (lit< tt)
 spelling_short (command.DeleteBucket name) is = fits 2 (bucket_short name is) (lit< tt)
 spelling_short (command.SetVersioning name enabled) is = fits 3 (joined (bucket_short name is) (flag_short enabled)) (lit< tt)
+spelling_short (command.SetReplication name config regions) is = is.3
+spelling_short (command.DropReplication name) is = fits 5 (bucket_short name is) (lit< tt)
 spelling_short (command.Put bucket key tags hold class bytes) is =
     fits 6 (joined (joined (joined (joined (joined (bucket_short bucket is.0) (key_short key is.1)) (tags_short tags is.2)) (flag_short hold)) (class_short class is.3)) (body_short bytes is.4)) (lit< tt)
 spelling_short (command.Marker bucket key) is = fits 7 (joined (bucket_short bucket is.0) (key_short key is.1)) (lit< tt)
@@ -86,12 +90,50 @@ spelling_short (command.Remove bucket key id) is = fits 8 (joined (joined (bucke
 spelling_short (command.SetTags bucket key id tags) is = fits 9 (joined (joined (joined (bucket_short bucket is.0) (key_short key is.1)) (id_short id)) (tags_short tags is.3)) (lit< tt)
 spelling_short (command.SetHold bucket key id hold) is = fits 10 (joined (joined (joined (bucket_short bucket is.0) (key_short key is.1)) (id_short id)) (flag_short hold)) (lit< tt)
 
-pub short_body : (c : Command) → IsCommand c → HasShortBody c
-short_body (command.CreateBucket name locked) is = tt
-short_body (command.DeleteBucket name) is = tt
-short_body (command.SetVersioning name enabled) is = tt
-short_body (command.Put bucket key tags hold class bytes) is = is.4
-short_body (command.Marker bucket key) is = tt
-short_body (command.Remove bucket key id) is = is.2
-short_body (command.SetTags bucket key id tags) is = is.2
-short_body (command.SetHold bucket key id hold) is = is.2
+pub meets_limits : (c : Command) → IsCommand c → MeetsLimits c
+meets_limits (command.CreateBucket name locked) is = tt
+meets_limits (command.DeleteBucket name) is = tt
+meets_limits (command.SetVersioning name enabled) is = tt
+meets_limits (command.SetReplication name config regions) is = (is.2, is.3)
+meets_limits (command.DropReplication name) is = tt
+meets_limits (command.Put bucket key tags hold class bytes) is = is.4
+meets_limits (command.Marker bucket key) is = tt
+meets_limits (command.Remove bucket key id) is = is.2
+meets_limits (command.SetTags bucket key id tags) is = is.2
+meets_limits (command.SetHold bucket key id hold) is = is.2
+
+-- ---- a configuration's command has one length, whatever its regions are
+
+length-rule : (rule : Rule) (r s : ℕ) → length (rule_bytes (rule, r)) ≡ length (rule_bytes (rule, s))
+length-rule rule r s = simp length-append refl
+
+length-rules : (rules : List Rule) (r s : List ℕ) → length r ≡ length rules → length s ≡ length rules → length (flat_map rule_bytes (zip rules r)) ≡ length (flat_map rule_bytes (zip rules s))
+length-rules [] r s e f = refl
+length-rules (rule ∷ rules) [] s e f = absurd (omega arith)
+length-rules (rule ∷ rules) (a ∷ r) [] e f = absurd (omega arith)
+length-rules (rule ∷ rules) (a ∷ r) (b ∷ s) e f =
+    omega (
+      arith,
+      ap length (flat_map-cons rule_bytes (rule, a) (zip rules r)),
+      ap length (flat_map-cons rule_bytes (rule, b) (zip rules s)),
+      length-append (rule_bytes (rule, a)) (flat_map rule_bytes (zip rules r)),
+      length-append (rule_bytes (rule, b)) (flat_map rule_bytes (zip rules s)),
+      length-rule rule a b,
+      length-rules rules r s (omega arith) (omega arith),
+    )
+
+pub regions_keep : (name : List ℕ) (rules : List Rule) (regions : List ℕ) → length regions ≡ length rules → fits_record name rules ≡ true → length (spelling (command.SetReplication name rules regions)) ≤ 16777216
+regions_keep name rules regions paired short =
+    let none = map (λ (rule : Rule). 0) rules in
+    let same = length-rules rules regions none paired (length-map rules (λ (rule : Rule). 0)) in
+    let count = to_be_bytes w16 (length rules) in
+    let most = leb-true (length (spelling (command.SetReplication name rules none))) 16777216 short in
+    omega (
+      arith,
+      most,
+      same,
+      length-append (text name) (rules_bytes rules regions),
+      length-append (text name) (rules_bytes rules none),
+      length-append count (flat_map rule_bytes (zip rules regions)),
+      length-append count (flat_map rule_bytes (zip rules none)),
+    )

@@ -61,6 +61,13 @@ pub record Reads {A : Type 0} (read : Unread → Result (A × Unread) ℕ) (spel
   pub takes : (u : Unread) (x : A × Unread) → IsBytes u.bytes → read u ≡ Ok x → Takes u.bytes (spell x.0) x.1.bytes × Fits x.0
   pub again : (whole : ℕ) (x : A) (rest : List ℕ) → Fits x → read (left whole (spell x ++ rest)) ≡ Ok (x, left whole rest)
 
+-- the same field, whose values are told by another rule
+pub Reads-as : {A : Type 0} {read : Unread → Result (A × Unread) ℕ} {spell : A → List ℕ} {Fits Rule : A → Type 0} → Reads read spell Fits → ((x : A) → Fits x → Rule x) → ((x : A) → Rule x → Fits x) → Reads read spell Rule
+Reads-as law to from = record {
+  takes = λ u x fits e. let t = law.takes u x fits e in (t.0, to x.0 t.1);
+  again = λ whole x rest ruled. law.again whole x rest (from x ruled);
+}
+
 -- a field that was taken, and the reading behind it
 pub record Taken {A B : Type 0} (u : Unread) (spell : A → List ℕ) (Fits : A → Type 0) (next : A × Unread → Result B ℕ) (y : B) : Type 0 where
   pub value : A

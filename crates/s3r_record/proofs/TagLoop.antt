@@ -6,6 +6,7 @@ use Rattle.std.proofs.lemmas.Option.{slice_get-get_or}
 use Rattle.s3r_names.specs.declared.tags.Tag.{Tag}
 use Rattle.s3r_record.specs.declared.fault.RecordFault.{RecordFault}
 use Rattle.s3r_record.specs.declared.fault.RecordFault.TheVariants as faults
+use Rattle.s3r_record.specs.declared.tag_rule.TagRule.{TagRule}
 use Rattle.s3r_record.specs.Reading.{◌>>=◌, Fails, Unread}
 use Rattle.s3r_record.specs.ReadingTags.{tag_at, tags_after}
 
@@ -23,34 +24,34 @@ abbrev pub with_front : List Tag → Result (List Tag × Unread) ℕ → Result 
 with_front front read = read >>= λ x. Ok (front ++ x.0, x.1)
 
 -- the tags that are left, of so many
-abbrev pub go_on : List Tag → ℕ → ℕ → Unread → Result (List Tag × Unread) ℕ
-go_on tags count done left = with_front tags (tags_after (count - done) (last_of tags) left)
+abbrev pub go_on : TagRule → List Tag → ℕ → ℕ → Unread → Result (List Tag × Unread) ℕ
+go_on rule tags count done left = with_front tags (tags_after rule (count - done) (last_of tags) left)
 
 regroup : (front : List Tag) (tag : Tag) (read : Result (List Tag × Unread) ℕ) → with_front front (read >>= λ x. Ok (tag ∷ x.0, x.1)) ≡ with_front (front ++ tag ∷ []) read
 regroup front tag (Ok x) = ap (λ (tags : List Tag). Ok (tags, x.1)) (simp append_assoc)
 regroup front tag (Err place) = refl
 
-pub goes_on : (tags : List Tag) (count done : ℕ) (left : Unread) (tag : Tag) (after : Unread) (total : Result (List Tag × Unread) ℕ) → done < count
-    → tag_at (last_of tags) left ≡ Ok (tag, after) → go_on tags count done left ≡ total → go_on (tags ++ tag ∷ []) count (done + 1) after ≡ total
+pub goes_on : (rule : TagRule) (tags : List Tag) (count done : ℕ) (left : Unread) (tag : Tag) (after : Unread) (total : Result (List Tag × Unread) ℕ) → done < count
+    → tag_at rule (last_of tags) left ≡ Ok (tag, after) → go_on rule tags count done left ≡ total → go_on rule (tags ++ tag ∷ []) count (done + 1) after ≡ total
 unfolding tags_after
-goes_on tags count done left tag after total lt read so_far =
+goes_on rule tags count done left tag after total lt read so_far =
     let more : count - done ≡ suc (count - (done + 1)) = omega arith in
-    let one : go_on tags count done left ≡ with_front (tags ++ tag ∷ []) (tags_after (count - (done + 1)) (Some tag) after) =
-    rw (more, read) (regroup tags tag (tags_after (count - (done + 1)) (Some tag) after)) in
-    ap (λ before. with_front (tags ++ tag ∷ []) (tags_after (count - (done + 1)) before after)) (last_of-push tags tag) ∙ sym one ∙ so_far
+    let one : go_on rule tags count done left ≡ with_front (tags ++ tag ∷ []) (tags_after rule (count - (done + 1)) (Some tag) after) =
+    rw (more, read) (regroup tags tag (tags_after rule (count - (done + 1)) (Some tag) after)) in
+    ap (λ before. with_front (tags ++ tag ∷ []) (tags_after rule (count - (done + 1)) before after)) (last_of-push tags tag) ∙ sym one ∙ so_far
 
-pub ends : (fault : RecordFault) (tags : List Tag) (count done : ℕ) (left : Unread) (total : Result (List Tag × Unread) ℕ) → done < count
-    → Fails fault (tag_at (last_of tags) left) → go_on tags count done left ≡ total → Fails fault total
+pub ends : (fault : RecordFault) (rule : TagRule) (tags : List Tag) (count done : ℕ) (left : Unread) (total : Result (List Tag × Unread) ℕ) → done < count
+    → Fails fault (tag_at rule (last_of tags) left) → go_on rule tags count done left ≡ total → Fails fault total
 unfolding tags_after
-ends faults.OutOfMemory tags count done left total lt fails so_far = tt
-ends (faults.NotACommand place) tags count done left total lt fails so_far =
+ends faults.OutOfMemory rule tags count done left total lt fails so_far = tt
+ends (faults.NotACommand place) rule tags count done left total lt fails so_far =
     let more : count - done ≡ suc (count - (done + 1)) = omega arith in
-    let one : go_on tags count done left ≡ Err place = rw (more, fails) refl in
+    let one : go_on rule tags count done left ≡ Err place = rw (more, fails) refl in
     sym so_far ∙ one
 
-pub is_done : (tags : List Tag) (count done : ℕ) (left : Unread) (total : Result (List Tag × Unread) ℕ) → count ≤ done → go_on tags count done left ≡ total → total ≡ Ok (tags, left)
+pub is_done : (rule : TagRule) (tags : List Tag) (count done : ℕ) (left : Unread) (total : Result (List Tag × Unread) ℕ) → count ≤ done → go_on rule tags count done left ≡ total → total ≡ Ok (tags, left)
 unfolding tags_after
-is_done tags count done left total le so_far =
+is_done rule tags count done left total le so_far =
     let none : count - done ≡ 0 = omega arith in
-    let one : go_on tags count done left ≡ Ok (tags, left) = rw none (ap (λ (all : List Tag). Ok (all, left)) (append-nil tags)) in
+    let one : go_on rule tags count done left ≡ Ok (tags, left) = rw none (ap (λ (all : List Tag). Ok (all, left)) (append-nil tags)) in
     sym so_far ∙ one

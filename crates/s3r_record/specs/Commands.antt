@@ -3,6 +3,7 @@ use Rattle.std.specs.Prelude.{ℕ, List, [], ◌∷◌, length, Result, Ok, Err,
 use Rattle.s3r_record.specs.declared.command.Command.{Command}
 use Rattle.s3r_record.specs.Reading.{◌>>=◌, Unread, place}
 use Rattle.s3r_record.specs.BucketCommands.{create_bucket_at, delete_bucket_at, set_versioning_at}
+use Rattle.s3r_record.specs.ReplicationCommands.{set_replication_at, drop_replication_at}
 use Rattle.s3r_record.specs.VersionCommands.{put_at, marker_at, remove_at, set_tags_at, set_hold_at}
 
 -- the fields of the command that the byte names
@@ -11,12 +12,14 @@ fields_at kind fields =
     if kind == 1 then create_bucket_at fields else (
     if kind == 2 then delete_bucket_at fields else (
     if kind == 3 then set_versioning_at fields else (
+    if kind == 4 then set_replication_at fields else (
+    if kind == 5 then drop_replication_at fields else (
     if kind == 6 then put_at fields else (
     if kind == 7 then marker_at fields else (
     if kind == 8 then remove_at fields else (
     if kind == 9 then set_tags_at fields else (
     if kind == 10 then set_hold_at fields else (
-    Err 0))))))))
+    Err 0))))))))))
 
 unfoldable pub command_at : List ℕ → Result Command ℕ
 command_at [] = Err 0

@@ -1,9 +1,10 @@
 -- The one spelling of each field.
-use Rattle.std.specs.Prelude.{ℕ, Bool, true, false, List, [], ◌∷◌, ◌++◌, length}
+use Rattle.std.specs.Prelude.{ℕ, Bool, true, false, List, [], ◌∷◌, ◌++◌, length, Option, Some, None}
 use Rattle.std.specs.Int.{Width, w16, w32, w64, to_be_bytes}
-use Rattle.std.specs.List.{flat_map}
+use Rattle.std.specs.List.{flat_map, zip}
 use Rattle.s3r_names.specs.declared.tags.Tag.{Tag}
 use Rattle.s3r_names.specs.declared.version.VersionId.{VersionId}
+use Rattle.s3r_rules.specs.declared.rule.Rule.{Rule}
 
 -- a length of that width, and that many bytes
 abbrev pub sized : Width → List ℕ → List ℕ
@@ -30,3 +31,25 @@ tags_bytes ts = length ts ∷ flat_map tag_bytes ts
 -- a byte of the region, and the index
 abbrev pub id_bytes : VersionId → List ℕ
 id_bytes id = id.region ∷ to_be_bytes w64 id.index
+
+-- whether there is one, and the text
+abbrev pub option_text : Option (List ℕ) → List ℕ
+option_text None = 0 ∷ []
+option_text (Some bytes) = 1 ∷ text bytes
+
+-- a rule, with its bucket's region behind the bucket
+abbrev pub rule_bytes : Rule × ℕ → List ℕ
+rule_bytes placed = text placed.0.id
+    ++ to_be_bytes w32 placed.0.priority
+    ++ flag placed.0.enabled
+    ++ text placed.0.prefix
+    ++ tags_bytes placed.0.tags
+    ++ flag placed.0.markers
+    ++ text placed.0.bucket
+    ++ (placed.1 ∷ [])
+    ++ option_text placed.0.class
+    ++ flag placed.0.replica_modifications
+
+-- two bytes of count, and each rule
+abbrev pub rules_bytes : List Rule → List ℕ → List ℕ
+rules_bytes rules regions = to_be_bytes w16 (length rules) ++ flat_map rule_bytes (zip rules regions)

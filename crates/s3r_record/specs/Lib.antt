@@ -1,8 +1,12 @@
 pub mod Fields
+pub mod Placing
 pub mod Spelling
 pub mod Reading
+pub mod ReadingTexts
 pub mod ReadingTags
 pub mod ReadingIds
+pub mod ReadingRules
 pub mod BucketCommands
+pub mod ReplicationCommands
 pub mod VersionCommands
 pub mod Commands

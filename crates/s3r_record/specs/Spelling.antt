@@ -1,47 +1,66 @@
 -- The one spelling of each command, and what a record holds of it.
-use Rattle.std.specs.Prelude.{◌≤◌, ℕ, List, [], ◌∷◌, ◌++◌, length, IsTrue}
+use Rattle.std.specs.Prelude.{◌≤◌, ℕ, Bool, nat_le, List, [], ◌∷◌, ◌++◌, map, length, IsTrue}
 use Rattle.std.specs.Int.{w32, to_be_bytes}
+use Rattle.std.specs.List.{list_all}
 use Rattle.s3r_names.specs.Bucket.{is_bucket_name}
 use Rattle.s3r_names.specs.Key.{is_key}
 use Rattle.s3r_names.specs.Class.{is_class_name}
 use Rattle.s3r_names.specs.Tags.{is_tag_set}
 use Rattle.s3r_names.specs.Version.{IsVersionId}
+use Rattle.s3r_rules.specs.Rules.{is_config}
+use Rattle.s3r_rules.specs.declared.rule.Rule.{Rule}
 use Rattle.s3r_record.specs.declared.command.Command.{Command}
 use Rattle.s3r_record.specs.declared.command.Command.TheVariants as command
-use Rattle.s3r_record.specs.Fields.{text, body, flag, tags_bytes, id_bytes}
+use Rattle.s3r_record.specs.Fields.{text, body, flag, tags_bytes, id_bytes, rules_bytes}
+use Rattle.s3r_record.specs.Placing.{IsPlaced, has_texts}
 
 -- a byte that says which command it is, and its fields in order
 abbrev pub spelling : Command → List ℕ
 spelling (command.CreateBucket name locked) = 1 ∷ (text name ++ flag locked)
 spelling (command.DeleteBucket name) = 2 ∷ text name
 spelling (command.SetVersioning name enabled) = 3 ∷ (text name ++ flag enabled)
+spelling (command.SetReplication name config regions) = 4 ∷ (text name ++ rules_bytes config regions)
+spelling (command.DropReplication name) = 5 ∷ text name
 spelling (command.Put bucket key tags hold class bytes) = 6 ∷ (text bucket ++ text key ++ tags_bytes tags ++ flag hold ++ text class ++ body bytes)
 spelling (command.Marker bucket key) = 7 ∷ (text bucket ++ text key)
 spelling (command.Remove bucket key id) = 8 ∷ (text bucket ++ text key ++ id_bytes id)
 spelling (command.SetTags bucket key id tags) = 9 ∷ (text bucket ++ text key ++ id_bytes id ++ tags_bytes tags)
 spelling (command.SetHold bucket key id hold) = 10 ∷ (text bucket ++ text key ++ id_bytes id ++ flag hold)
 
--- each field meets its type's rule
+-- each field meets its type's rule, and the spelling has at most 16 MiB, which only a configuration's could pass
 abbrev pub IsCommand : Command → Type 0
 IsCommand (command.CreateBucket name locked) = IsTrue (is_bucket_name name)
 IsCommand (command.DeleteBucket name) = IsTrue (is_bucket_name name)
 IsCommand (command.SetVersioning name enabled) = IsTrue (is_bucket_name name)
+IsCommand (command.SetReplication name config regions) = IsTrue (is_bucket_name name)
+    × IsTrue (is_config config)
+    × IsPlaced config regions
+    × (length (spelling (command.SetReplication name config regions)) ≤ 16777216)
+    × IsTrue (list_all has_texts config)
+IsCommand (command.DropReplication name) = IsTrue (is_bucket_name name)
 IsCommand (command.Put bucket key tags hold class bytes) = IsTrue (is_bucket_name bucket) × IsTrue (is_key key) × IsTrue (is_tag_set tags) × IsTrue (is_class_name class) × (length bytes ≤ 4194304)
 IsCommand (command.Marker bucket key) = IsTrue (is_bucket_name bucket) × IsTrue (is_key key)
 IsCommand (command.Remove bucket key id) = IsTrue (is_bucket_name bucket) × IsTrue (is_key key) × IsVersionId id
 IsCommand (command.SetTags bucket key id tags) = IsTrue (is_bucket_name bucket) × IsTrue (is_key key) × IsVersionId id × IsTrue (is_tag_set tags)
 IsCommand (command.SetHold bucket key id hold) = IsTrue (is_bucket_name bucket) × IsTrue (is_key key) × IsVersionId id
 
--- what the types of its fields leave open: the length of a body, and the rule of an id
-abbrev pub HasShortBody : Command → Type 0
-HasShortBody (command.CreateBucket name locked) = Unit {0}
-HasShortBody (command.DeleteBucket name) = Unit {0}
-HasShortBody (command.SetVersioning name enabled) = Unit {0}
-HasShortBody (command.Put bucket key tags hold class bytes) = length bytes ≤ 4194304
-HasShortBody (command.Marker bucket key) = Unit {0}
-HasShortBody (command.Remove bucket key id) = IsVersionId id
-HasShortBody (command.SetTags bucket key id tags) = IsVersionId id
-HasShortBody (command.SetHold bucket key id hold) = IsVersionId id
+-- what the types of its fields leave open: the length of a body, the rule of an id, and of a configuration its regions and
+-- its length
+abbrev pub MeetsLimits : Command → Type 0
+MeetsLimits (command.CreateBucket name locked) = Unit {0}
+MeetsLimits (command.DeleteBucket name) = Unit {0}
+MeetsLimits (command.SetVersioning name enabled) = Unit {0}
+MeetsLimits (command.SetReplication name config regions) = IsPlaced config regions × (length (spelling (command.SetReplication name config regions)) ≤ 16777216)
+MeetsLimits (command.DropReplication name) = Unit {0}
+MeetsLimits (command.Put bucket key tags hold class bytes) = length bytes ≤ 4194304
+MeetsLimits (command.Marker bucket key) = Unit {0}
+MeetsLimits (command.Remove bucket key id) = IsVersionId id
+MeetsLimits (command.SetTags bucket key id tags) = IsVersionId id
+MeetsLimits (command.SetHold bucket key id hold) = IsVersionId id
+
+-- a configuration's command is short enough for a record, whatever its regions are
+abbrev pub fits_record : List ℕ → List Rule → Bool
+fits_record name rules = nat_le (length (spelling (command.SetReplication name rules (map (λ (rule : Rule). 0) rules)))) 16777216
 
 -- a spelling behind its length, with a closed gate after it
 abbrev pub frame : List ℕ → List ℕ

@@ -6,6 +6,7 @@ use Rattle.s3r_names.specs.Key.{is_key}
 use Rattle.s3r_names.specs.Class.{is_class_name}
 use Rattle.s3r_record.specs.declared.command.Command.{Command}
 use Rattle.s3r_record.specs.declared.command.Command.TheVariants as command
+use Rattle.s3r_record.specs.declared.tag_rule.TagRule.TheVariants as allowed
 use Rattle.s3r_record.specs.Reading.{◌>>=◌, Unread, flag_at, tested_at, is_body}
 use Rattle.s3r_record.specs.ReadingTags.{tags_at}
 use Rattle.s3r_record.specs.ReadingIds.{id_at}
@@ -14,7 +15,7 @@ unfoldable pub put_at : Unread → Result (Command × Unread) ℕ
 put_at fields = do
   bucket ← tested_at w16 is_bucket_name fields
   key ← tested_at w16 is_key bucket.1
-  tags ← tags_at key.1
+  tags ← tags_at allowed.Lawful key.1
   hold ← flag_at tags.1
   class ← tested_at w16 is_class_name hold.1
   body ← tested_at w32 is_body class.1
@@ -38,7 +39,7 @@ set_tags_at fields = do
   bucket ← tested_at w16 is_bucket_name fields
   key ← tested_at w16 is_key bucket.1
   id ← id_at key.1
-  tags ← tags_at id.1
+  tags ← tags_at allowed.Lawful id.1
   Ok (command.SetTags bucket.0 key.0 id.0 tags.0, tags.1)
 
 unfoldable pub set_hold_at : Unread → Result (Command × Unread) ℕ

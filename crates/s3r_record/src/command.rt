@@ -1,4 +1,5 @@
 use s3r_names::{BucketName, Bytes, ClassName, Key, TagSet, VersionId};
+use s3r_rules::Config;
 
 /// What one record of a region's volume says.
 #[derive(Debug, Drop)]
@@ -14,6 +15,16 @@ pub enum Command {
     SetVersioning {
         name: BucketName,
         enabled: bool,
+    },
+    /// The bucket's replication rules are these from now on.
+    SetReplication {
+        name: BucketName,
+        config: Config,
+        /// The region of each rule's bucket, one a rule.
+        regions: Bytes,
+    },
+    DropReplication {
+        name: BucketName,
     },
     Put {
         bucket: BucketName,

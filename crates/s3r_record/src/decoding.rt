@@ -11,6 +11,7 @@ use crate::command::Command;
 use crate::fault::RecordFault;
 use crate::kinds;
 use crate::reading::Rest;
+use crate::replication_decoding::{drop_replication, set_replication};
 use crate::version_decoding::{marker, put, remove, set_hold, set_tags};
 use std::alloc::Global;
 
@@ -22,6 +23,8 @@ fn fields_of(alloc: Global, kind: u8, fields: Rest<'_>) -> Result<(Command, Rest
         kinds::CREATE_BUCKET => create_bucket(alloc, fields),
         kinds::DELETE_BUCKET => delete_bucket(alloc, fields),
         kinds::SET_VERSIONING => set_versioning(alloc, fields),
+        kinds::SET_REPLICATION => set_replication(alloc, fields),
+        kinds::DROP_REPLICATION => drop_replication(alloc, fields),
         kinds::PUT => put(alloc, fields),
         kinds::MARKER => marker(alloc, fields),
         kinds::REMOVE => remove(alloc, fields),

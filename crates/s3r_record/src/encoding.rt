@@ -1,18 +1,19 @@
 //! From a command to the bytes of its record.
 
 ghost use Rattle.std.specs.Prelude.{◌≡◌, ◌≤◌, ◌++◌, length, OnOk, IfOk};
-ghost use Rattle.s3r_record.specs.Spelling.{spelling, IsCommand, HasShortBody, frame};
+ghost use Rattle.s3r_record.specs.Spelling.{spelling, IsCommand, MeetsLimits, frame};
 ghost use Rattle.s3r_record.specs.declared.command.Command.{Command};
 
 use crate::bucket_encoding::{write_create_bucket, write_delete_bucket, write_set_versioning};
 use crate::command::Command;
+use crate::replication_encoding::{write_drop_replication, write_set_replication};
 use crate::version_encoding::{
     write_marker, write_put, write_remove, write_set_hold, write_set_tags,
 };
 use std::alloc::{AllocError, Global};
 
 fn write_command(out: &mut Vec<u8>, command: &Command) -> Result<(), AllocError>
-    requires { HasShortBody command.now }
+    requires { MeetsLimits command.now }
     ensures spelled { OnOk result (out.new.items ≡ out.old.items ++ spelling command.now) }
     ensures fits { OnOk result (IsCommand command.now) }
 {
@@ -20,6 +21,12 @@ fn write_command(out: &mut Vec<u8>, command: &Command) -> Result<(), AllocError>
         Command::CreateBucket { name, locked } => write_create_bucket(out, name, *locked),
         Command::DeleteBucket { name } => write_delete_bucket(out, name),
         Command::SetVersioning { name, enabled } => write_set_versioning(out, name, *enabled),
+        Command::SetReplication {
+            name,
+            config,
+            regions,
+        } => write_set_replication(out, name, config, regions),
+        Command::DropReplication { name } => write_drop_replication(out, name),
         Command::Put {
             bucket,
             key,
@@ -59,7 +66,7 @@ fn framed(alloc: Global, spelling: &[u8]) -> Result<Vec<u8>, AllocError>
 /// What a record holds of the command behind its gate: the length of its spelling, the spelling, and the next
 /// record's closed gate.
 pub fn encode(alloc: Global, command: &Command) -> Result<Vec<u8>, AllocError>
-    requires { HasShortBody command.now }
+    requires { MeetsLimits command.now }
     ensures framed { IfOk result (λ v. v.items ≡ frame (spelling command.now)) }
     ensures fits { OnOk result (IsCommand command.now) }
 {

@@ -14,7 +14,7 @@ use std::alloc::Global;
 /// The most bytes of a body.
 const BODY_LIMIT: usize = 4_194_304;
 
-fn u16_of(left: Rest<'_>) -> Result<(u16, Rest<'_>), RecordFault>
+pub(crate) fn u16_of(left: Rest<'_>) -> Result<(u16, Rest<'_>), RecordFault>
     ensures { Gives (λ x. (x.0, unread x.1)) result (number_at w16 (unread left.entry)) }
 {
     if left.bytes.len() < 2 {
@@ -25,7 +25,7 @@ fn u16_of(left: Rest<'_>) -> Result<(u16, Rest<'_>), RecordFault>
     Ok((number, left.with(rest)))
 }
 
-fn u32_of(left: Rest<'_>) -> Result<(u32, Rest<'_>), RecordFault>
+pub(crate) fn u32_of(left: Rest<'_>) -> Result<(u32, Rest<'_>), RecordFault>
     ensures { Gives (λ x. (x.0, unread x.1)) result (number_at w32 (unread left.entry)) }
 {
     if left.bytes.len() < 4 {

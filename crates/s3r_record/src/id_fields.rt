@@ -12,7 +12,7 @@ use s3r_names::VersionId;
 const LAST_REGION: u8 = 7;
 
 #[tactic(auto, unfolding(crate::specs::ReadingIds::region_at))]
-fn region_of(left: Rest<'_>) -> Result<(u8, Rest<'_>), RecordFault>
+pub(crate) fn region_of(left: Rest<'_>) -> Result<(u8, Rest<'_>), RecordFault>
     ensures { Gives (λ x. (x.0, unread x.1)) result (region_at (unread left.entry)) }
 {
     byte_of(LAST_REGION, left)

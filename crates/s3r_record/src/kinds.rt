@@ -6,6 +6,10 @@ pub(crate) const DELETE_BUCKET: u8 = 2;
 
 pub(crate) const SET_VERSIONING: u8 = 3;
 
+pub(crate) const SET_REPLICATION: u8 = 4;
+
+pub(crate) const DROP_REPLICATION: u8 = 5;
+
 pub(crate) const PUT: u8 = 6;
 
 pub(crate) const MARKER: u8 = 7;

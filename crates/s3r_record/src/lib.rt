@@ -11,7 +11,16 @@ mod fields;
 mod id_fields;
 mod kinds;
 mod reading;
+mod replication_decoding;
+mod replication_encoding;
+mod rule_fields;
+mod rule_parts;
+mod rule_texts;
+mod rule_writing;
 mod tag_fields;
+mod tag_rule;
+mod tags;
+mod text_fields;
 mod version_decoding;
 mod version_encoding;
 mod writing;
@@ -20,6 +29,8 @@ pub use command::Command;
 pub use decoding::{decode, one_spelling};
 pub use encoding::{encode, spelling_is_short};
 pub use fault::RecordFault;
+pub use replication_encoding::{fits_record, regions_keep_length};
+pub use rule_texts::are_texts;
 
 #[cfg(test)]
 mod tests;

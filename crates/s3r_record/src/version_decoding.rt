@@ -8,7 +8,7 @@ use crate::fault::RecordFault;
 use crate::fields::{body_of, bucket_name_of, class_of, flag_of, key_of};
 use crate::id_fields::id_of;
 use crate::reading::Rest;
-use crate::tag_fields::tags_of;
+use crate::tag_fields::tag_set_of;
 use std::alloc::Global;
 
 #[tactic(auto, unfolding(crate::specs::VersionCommands::put_at))]
@@ -17,7 +17,7 @@ pub(crate) fn put(alloc: Global, fields: Rest<'_>) -> Result<(Command, Rest<'_>)
 {
     let (bucket, rest) = bucket_name_of(alloc, fields)?;
     let (key, rest) = key_of(alloc, rest)?;
-    let (tags, rest) = tags_of(alloc, rest)?;
+    let (tags, rest) = tag_set_of(alloc, rest)?;
     let (hold, rest) = flag_of(rest)?;
     let (class, rest) = class_of(alloc, rest)?;
     let (body, rest) = body_of(alloc, rest)?;
@@ -58,7 +58,7 @@ pub(crate) fn set_tags(alloc: Global, fields: Rest<'_>) -> Result<(Command, Rest
     let (bucket, rest) = bucket_name_of(alloc, fields)?;
     let (key, rest) = key_of(alloc, rest)?;
     let (id, rest) = id_of(rest)?;
-    let (tags, rest) = tags_of(alloc, rest)?;
+    let (tags, rest) = tag_set_of(alloc, rest)?;
     let command = Command::SetTags {
         bucket,
         key,

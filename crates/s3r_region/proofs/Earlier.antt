@@ -72,6 +72,7 @@ changed_before n m (change.Remove key id) b at first fits last all = all-filter 
 changed_before n m (change.Tags key id tags stamp) b at first fits last all = all-map (is_earlier n) (if_version key id (with_tags stamp tags)) (kept_tags n key id stamp tags) b.rows.rows ∙ all
 changed_before n m (change.Hold key id hold stamp) b at first fits last all = all-map (is_earlier n) (if_version key id (with_hold stamp hold)) (kept_hold n key id stamp hold) b.rows.rows ∙ all
 changed_before n m (change.Versioning enabled) b at first fits last all = all
+changed_before n m (change.Replication config) b at first fits last all = all
 
 -- one command more, which makes the change
 pub before-changed : (n : ℕ) (name : Name) (c : Change) (bs : List Bucket) → IsAt n c → 1 ≤ n → n < 18446744073709551616 → are_earlier n bs ≡ true → are_earlier (n + 1) (set_first (is_named name) (changed c) bs) ≡ true
@@ -118,6 +119,7 @@ free_at (change.Remove key id) p bs i b at first later = tt
 free_at (change.Tags key id tags stamp) p bs i b at first later = tt
 free_at (change.Hold key id hold stamp) p bs i b at first later = tt
 free_at (change.Versioning enabled) p bs i b at first later = tt
+free_at (change.Replication config) p bs i b at first later = tt
 
 pub if_found_ids : (n : ℕ) (name : Name) (bs : List Bucket) (o : Option (Bor Bucket)) → option_copied o ≡ find (is_named name) bs → are_earlier n bs ≡ true → IfSome o (λ b. IsTrue (have_ids b.now.rows.rows))
 if_found_ids n name bs None is all = tt

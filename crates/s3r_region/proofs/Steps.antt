@@ -9,6 +9,7 @@ use Rattle.s3r_names.specs.declared.tags.Tag.{Tag}
 use Rattle.s3r_names.specs.declared.version.VersionId.{VersionId}
 use Rattle.s3r_record.specs.declared.command.Command.{Command}
 use Rattle.s3r_record.specs.declared.command.Command.TheVariants as command
+use Rattle.s3r_rules.specs.declared.rule.Rule.{Rule}
 use Rattle.s3r_versions.specs.Lookup.{find_version}
 use Rattle.s3r_versions.specs.Contents.{without_version}
 use Rattle.s3r_versions.specs.Removed.{with_id}
@@ -23,7 +24,7 @@ use Rattle.s3r_history.specs.Accepts.{refusal, first_of_causes, in_bucket, in_ve
 use Rattle.s3r_history.proofs.Versions.{length-deeds}
 use Rattle.s3r_history.proofs.LatestRows.{clock_fits}
 use Rattle.s3r_history.proofs.HistoryNames.{names-create, names-delete}
-use Rattle.s3r_history.proofs.ToldSteps.{changed_at, add_row, remove_row, write_tags, write_hold, switch, told-put, told-marker, told-remove, told-tags, told-hold, told-switch, told-delete, told-create}
+use Rattle.s3r_history.proofs.ToldSteps.{changed_at, add_row, remove_row, write_tags, write_hold, switch, configure, told-put, told-marker, told-remove, told-tags, told-hold, told-switch, told-replicate, told-drop, told-delete, told-create}
 use Rattle.s3r_region.specs.declared.bucket.Bucket.{Bucket}
 use Rattle.s3r_region.specs.declared.change.Change.{Change}
 use Rattle.s3r_region.specs.declared.change.Change.TheVariants as change
@@ -46,6 +47,7 @@ keeps_name (change.Remove key id) x = refl
 keeps_name (change.Tags key id tags stamp) x = refl
 keeps_name (change.Hold key id hold stamp) x = refl
 keeps_name (change.Versioning enabled) x = refl
+keeps_name (change.Replication config) x = refl
 
 -- the state after a command that changes what is told of its bucket by f, under the clock's number n
 after-change : (s : Contents) (h : History) (name : Name) (ch : Change) (f : Told → Told) (c : Command) (n : ℕ) → IsAfter s h
@@ -109,6 +111,17 @@ after-switch s h name enabled a =
     after-change s h name (change.Versioning enabled) (switch enabled) (command.SetVersioning name enabled) s.clock a
     (λ x. refl) (told-switch s.region h name enabled) refl (a.clock ∙ zero_max (clock (deeds s.region h)))
 
+pub after-replicate : (s : Contents) (h : History) (name : Name) (config : List Rule) (regions : List ℕ) → IsAfter s h
+    → IsAfter (with_change s name (change.Replication (Some (record { config = config; regions = regions })))) (command.SetReplication name config regions ∷ h)
+after-replicate s h name config regions a =
+    after-change s h name (change.Replication (Some (record { config = config; regions = regions }))) (configure (Some (record { config = config; regions = regions }))) (command.SetReplication name config regions) s.clock a
+    (λ x. refl) (told-replicate s.region h name config regions) refl (a.clock ∙ zero_max (clock (deeds s.region h)))
+
+pub after-drop : (s : Contents) (h : History) (name : Name) → IsAfter s h → IsAfter (with_change s name (change.Replication None)) (command.DropReplication name ∷ h)
+after-drop s h name a =
+    after-change s h name (change.Replication None) (configure None) (command.DropReplication name) s.clock a
+    (λ x. refl) (told-drop s.region h name) refl (a.clock ∙ zero_max (clock (deeds s.region h)))
+
 -- a bucket from which a version is removed, perhaps one that isn't there
 abbrev drop_row : Name → VersionId → Told → Told
 drop_row key id t = record t { rows = without_version key id t.rows; removed = cond (is_some (find_version key id t.rows)) (with_id id t.removed) t.removed }
@@ -123,7 +136,7 @@ found key id (Some t) accepted = go (find_version key id t.rows) accepted
     go None e = absurd cc
     go (Some row) e = refl
 
-pub after-remove : (s : Contents) (h : History) (name key : Name) (id : VersionId) → IsAfter s h → refusal s.region h (command.Remove name key id) ≡ None
+pub after-remove : (s : Contents) (h : History) (name key : Name) (id : VersionId) → IsAfter s h → refusal s.regions s.region h (command.Remove name key id) ≡ None
     → IsAfter (with_change s name (change.Remove key id)) (command.Remove name key id ∷ h)
 after-remove s h name key id a accepted =
     after-change s h name (change.Remove key id) (drop_row key id) (command.Remove name key id) s.clock a
@@ -166,7 +179,7 @@ there r h name accepted = go (bucket h name) accepted
     go None e = absurd cc
     go (Some at) e = refl
 
-pub after-create : (s : Contents) (h : History) (name : Name) (locked : Bool) → IsAfter s h → refusal s.region h (command.CreateBucket name locked) ≡ None
+pub after-create : (s : Contents) (h : History) (name : Name) (locked : Bool) → IsAfter s h → refusal s.regions s.region h (command.CreateBucket name locked) ≡ None
     → IsAfter (with_created s name locked) (command.CreateBucket name locked ∷ h)
 after-create s h name locked a accepted = record {
   commands = ap (λ n. n + 1) a.commands ∙ add-one (length h);
@@ -194,7 +207,7 @@ is_found (Some x) at e h = refl
 one_less : (n m k : ℕ) → n ≡ m + 1 → n ≡ k + 1 → m ≡ k
 one_less n m k e f = omega (arith, e, f)
 
-pub after-delete : (s : Contents) (h : History) (name : Name) → IsAfter s h → refusal s.region h (command.DeleteBucket name) ≡ None
+pub after-delete : (s : Contents) (h : History) (name : Name) → IsAfter s h → refusal s.regions s.region h (command.DeleteBucket name) ≡ None
     → IsAfter (with_deleted s name) (command.DeleteBucket name ∷ h)
 after-delete s h name a accepted = record {
   commands = ap (λ n. n + 1) a.commands ∙ add-one (length h);
@@ -213,7 +226,7 @@ after-delete s h name a accepted = record {
 
 -- from one state to the other the command was applied
 abbrev pub Applies : Contents → Command → Contents → Type 0
-Applies s c t = (h : History) → IsAfter s h → refusal s.region h c ≡ None → IsAfter t (c ∷ h)
+Applies s c t = (h : History) → IsAfter s h → refusal s.regions s.region h c ≡ None → IsAfter t (c ∷ h)
 
 pub applied : (s t u : Contents) (c d : Command) → c ≡ d → t ≡ u → Applies s d u → Applies s c t
 applied s t u c d same is did = subst (λ (x : Command). Applies s x t) (sym same) (subst (λ (x : Contents). Applies s d x) (sym is) did)

@@ -11,7 +11,7 @@ use Rattle.s3r_region.specs.Contents.{Contents, is_named, names_of}
 
 -- what a bucket of a state tells
 abbrev pub told_by : Bucket → Told
-told_by b = record { locked = b.locked; enabled = b.enabled; rows = b.rows.rows; removed = b.rows.removed }
+told_by b = record { locked = b.locked; enabled = b.enabled; config = b.config; rows = b.rows.rows; removed = b.rows.removed }
 
 -- the state's first bucket of this name
 abbrev pub seen_bucket : Contents → Name → Option Bucket

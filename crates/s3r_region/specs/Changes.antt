@@ -23,7 +23,7 @@ without_first p (x ∷ xs) = if p x then xs else x ∷ without_first p xs
 
 -- a bucket with no versions
 abbrev pub new_bucket : Name → Bool → Bucket
-new_bucket name locked = record { name = name; locked = locked; enabled = true; rows = record { rows = []; removed = [] } }
+new_bucket name locked = record { name = name; locked = locked; enabled = true; config = None; rows = record { rows = []; removed = [] } }
 
 abbrev pub with_rows : List Entry → Bucket → Bucket
 with_rows rows b = record b { rows = record b.rows { rows = rows } }
@@ -40,6 +40,7 @@ changed (change.Remove key id) b = record b {
 changed (change.Tags key id tags stamp) b = with_rows (on_version key id (with_tags stamp tags) b.rows.rows) b
 changed (change.Hold key id hold stamp) b = with_rows (on_version key id (with_hold stamp hold) b.rows.rows) b
 changed (change.Versioning enabled) b = record b { enabled = enabled }
+changed (change.Replication config) b = record b { config = config }
 
 -- a row that is added is of no version that is there
 abbrev pub IsFree : Change → Bucket → Type 0
@@ -48,6 +49,7 @@ IsFree (change.Remove key id) b = Unit {0}
 IsFree (change.Tags key id tags stamp) b = Unit {0}
 IsFree (change.Hold key id hold stamp) b = Unit {0}
 IsFree (change.Versioning enabled) b = Unit {0}
+IsFree (change.Replication config) b = Unit {0}
 
 -- a row that is added is of a later command than those that are there
 abbrev pub IsLater : Change → List Bucket → Type 0
@@ -56,6 +58,7 @@ IsLater (change.Remove key id) buckets = Unit {0}
 IsLater (change.Tags key id tags stamp) buckets = Unit {0}
 IsLater (change.Hold key id hold stamp) buckets = Unit {0}
 IsLater (change.Versioning enabled) buckets = Unit {0}
+IsLater (change.Replication config) buckets = Unit {0}
 
 -- the state after one command more, which makes the change
 abbrev pub with_change : Contents → Name → Change → Contents
@@ -72,3 +75,4 @@ IsAt index (change.Remove key id) = Unit {0}
 IsAt index (change.Tags key id tags stamp) = Unit {0}
 IsAt index (change.Hold key id hold stamp) = Unit {0}
 IsAt index (change.Versioning enabled) = Unit {0}
+IsAt index (change.Replication config) = Unit {0}

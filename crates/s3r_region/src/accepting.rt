@@ -1,14 +1,14 @@
 //! Which commands may come next, by the bucket that they name.
 
-ghost use Rattle.std.specs.Prelude.{◌≡◌};
-ghost use Rattle.s3r_history.specs.Accepts.{first_of_causes, of_deletion, of_switch, of_put, of_marker, of_removal, of_tags, of_hold, of_a_marker, in_version};
+ghost use Rattle.std.specs.Prelude.{◌≡◌, option_map, option_copied};
+ghost use Rattle.s3r_history.specs.Accepts.{first_of_causes, of_deletion, of_switch, of_configuration, of_dropping, of_put, of_marker, of_removal, of_tags, of_hold, of_a_marker, in_version, beyond};
 ghost use Rattle.s3r_versions.specs.Lookup.{find_version};
 ghost use Rattle.s3r_region.specs.After.{told_by};
 ghost use Rattle.s3r_region.specs.Denies.{Accepts};
 
 use crate::{Bucket, Deny};
 use s3r_history::Refusal;
-use s3r_names::{Key, VersionId};
+use s3r_names::{Bytes, Key, VersionId};
 
 /// Whether the bucket may be deleted.
 pub(crate) fn may_delete(bucket: &Bucket) -> Result<(), Deny>
@@ -25,10 +25,48 @@ pub(crate) fn may_delete(bucket: &Bucket) -> Result<(), Deny>
 pub(crate) fn may_switch(bucket: &Bucket, enabled: bool) -> Result<(), Deny>
     ensures { Accepts (first_of_causes (of_switch enabled (told_by bucket.now))) result }
 {
-    if !enabled && bucket.locked {
+    if !enabled && (bucket.config.is_some() || bucket.locked) {
         return Err(Deny::Refused(Refusal::InvalidBucketState));
     }
     Ok(())
+}
+
+/// Whether it may get a configuration.
+pub(crate) fn may_configure(bucket: &Bucket) -> Result<(), Deny>
+    ensures { Accepts (first_of_causes (of_configuration (told_by bucket.now))) result }
+{
+    if !bucket.enabled {
+        return Err(Deny::Refused(Refusal::InvalidBucketState));
+    }
+    Ok(())
+}
+
+/// Whether its configuration may be taken away.
+pub(crate) fn may_drop(bucket: &Bucket) -> Result<(), Deny>
+    ensures { Accepts (first_of_causes (of_dropping (told_by bucket.now))) result }
+{
+    if bucket.config.is_some() {
+        Ok(())
+    } else {
+        Err(Deny::Refused(Refusal::NoReplication))
+    }
+}
+
+/// The first region that isn't there, where there are so many.
+fn first_beyond(regions: &[u8], count: u32) -> Option<&u8>
+    ensures { option_copied result ≡ beyond count regions.now }
+{
+    regions.iter().find(|region| count <= u32::from(**region))
+}
+
+/// Whether all these regions are there, of so many.
+pub(crate) fn are_there(regions: &Bytes, count: u32) -> Result<(), Deny>
+    ensures { Accepts (option_map (λ r. Refusal.NoSuchRegion r) (beyond count regions.now)) result }
+{
+    match first_beyond(regions.as_slice(), count) {
+        Some(region) => Err(Deny::Refused(Refusal::NoSuchRegion { region: *region })),
+        None => Ok(()),
+    }
 }
 
 /// Whether it may get a version, under a hold or without one.

@@ -5,6 +5,7 @@ ghost use Rattle.s3r_region.specs.Contents.{is_named};
 ghost use Rattle.s3r_region.specs.Changes.{set_first, without_first, changed, new_bucket, IsLater};
 
 use crate::change::Change;
+use s3r_history::Replication;
 use s3r_names::{BucketName, Bytes};
 use s3r_versions::Rows;
 use std::alloc::{AllocError, Global};
@@ -17,6 +18,8 @@ pub struct Bucket {
     pub locked: bool,
     /// Whether its versioning is Enabled, and not Suspended.
     pub enabled: bool,
+    /// Where to it is copied.
+    pub config: Option<Replication>,
     pub rows: Rows<Bytes>,
 }
 
@@ -28,6 +31,7 @@ impl Bucket {
             name,
             locked,
             enabled: true,
+            config: None,
             rows: Rows::new(alloc),
         }
     }

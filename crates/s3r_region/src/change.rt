@@ -4,6 +4,7 @@ ghost use Rattle.std.specs.Prelude.{◌≡◌, OnOk, OnErr};
 ghost use Rattle.s3r_region.specs.Changes.{changed, IsFree};
 
 use crate::Bucket;
+use s3r_history::Replication;
 use s3r_names::{Bytes, Key, Stamp, TagSet, VersionId};
 use s3r_versions::Row;
 use std::alloc::AllocError;
@@ -34,6 +35,8 @@ pub(crate) enum Change {
     },
     /// Versioning is Enabled from now on, or Suspended.
     Versioning(bool),
+    /// Its configuration is this one from now on, or none.
+    Replication(Option<Replication>),
 }
 
 impl Bucket {
@@ -65,6 +68,7 @@ impl Bucket {
                 self.rows.set_hold(&key, id, hold, stamp);
             }
             Change::Versioning(enabled) => self.enabled = enabled,
+            Change::Replication(config) => self.config = config,
         }
         Ok(())
     }

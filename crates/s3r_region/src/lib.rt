@@ -8,7 +8,7 @@ mod state;
 mod version;
 
 pub use bucket::Bucket;
-pub use s3r_history::Refusal;
+pub use s3r_history::{Refusal, Replication};
 pub use state::{Deny, State};
 
 #[cfg(test)]

@@ -1,16 +1,19 @@
 //! What a region keeps, and what its commands do to it.
 
 ghost use Rattle.std.specs.Prelude.{◌≡◌, ◌+◌, ◌<◌, ◌≤◌, ◌^◌, IsTrue, IfSome, [], ◌∷◌, ◌++◌, None, length, OnOk, option_copied};
-ghost use Rattle.s3r_record.specs.Spelling.{HasShortBody};
+ghost use Rattle.s3r_record.specs.Spelling.{MeetsLimits};
 ghost use Rattle.s3r_history.specs.Words.{History};
 ghost use Rattle.s3r_history.specs.Accepts.{refusal, causes, first_of_causes, of_creation};
 
 use crate::Bucket;
-use crate::accepting::{may_delete, may_hold, may_mark, may_put, may_remove, may_switch, may_tag};
+use crate::accepting::{
+    are_there, may_configure, may_delete, may_drop, may_hold, may_mark, may_put, may_remove,
+    may_switch, may_tag,
+};
 use crate::bucket::{bucket_named, change_bucket, remove_bucket};
 use crate::change::Change;
 use crate::version::{new_marker, new_version};
-use s3r_history::Refusal;
+use s3r_history::{Refusal, Replication};
 use s3r_names::{BucketName, Stamp};
 use s3r_record::Command;
 use std::alloc::{AllocError, Global};
@@ -106,18 +109,23 @@ impl State {
 
     /// Whether the command may come next.
     pub fn accepts(&self, command: &Command) -> Result<(), Deny>
-        ensures { (h : History) → IsAfter self.now h → Accepts (refusal self.now.region h command.now) result }
+        ensures { (h : History) → IsAfter self.now h → Accepts (refusal self.now.regions self.now.region h command.now) result }
     {
         self.may_come(command)
     }
 
     fn may_come(&self, command: &Command) -> Result<(), Deny>
-        ensures { Accepts (first_of_causes (causes (seen self.now) (length self.now.buckets) command.now)) result }
+        ensures { Accepts (first_of_causes (causes self.now.regions (seen self.now) (length self.now.buckets) command.now)) result }
     {
         match command {
             Command::CreateBucket { name, .. } => self.may_create(name),
             Command::DeleteBucket { name } => may_delete(self.there(name)?),
             Command::SetVersioning { name, enabled } => may_switch(self.there(name)?, *enabled),
+            Command::SetReplication { name, regions, .. } => {
+                are_there(regions, self.regions)?;
+                may_configure(self.there(name)?)
+            }
+            Command::DropReplication { name } => may_drop(self.there(name)?),
             Command::Put { bucket, hold, .. } => may_put(self.there(bucket)?, *hold),
             Command::Marker { bucket, .. } => may_mark(self.there(bucket)?),
             Command::Remove { bucket, key, id } => may_remove(self.there(bucket)?, key, *id),
@@ -161,8 +169,8 @@ impl State {
     /// Does what an accepted command says. After an `Err` the state is given up.
     pub fn apply(&mut self, alloc: Global, command: Command) -> Result<(), AllocError>
         requires few { self.old.commands + 1 < 2 ^ 64 }
-        requires short { HasShortBody command }
-        ensures after { OnOk result ((h : History) → IsAfter self.old h → refusal self.old.region h command ≡ None
+        requires short { MeetsLimits command }
+        ensures after { OnOk result ((h : History) → IsAfter self.old h → refusal self.old.regions self.old.region h command ≡ None
             → IsAfter self.new (command ∷ h)) }
         ensures count { OnOk result (self.new.commands ≡ self.old.commands + 1) }
         ensures region { self.new.region ≡ self.old.region }
@@ -175,6 +183,15 @@ impl State {
             Command::SetVersioning { name, enabled } => {
                 self.change(&name, Change::Versioning(enabled))
             }
+            Command::SetReplication {
+                name,
+                config,
+                regions,
+            } => {
+                let replication = Replication { config, regions };
+                self.change(&name, Change::Replication(Some(replication)))
+            }
+            Command::DropReplication { name } => self.change(&name, Change::Replication(None)),
             Command::Put {
                 bucket,
                 key,

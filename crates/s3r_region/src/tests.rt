@@ -1,22 +1,22 @@
 ghost use Rattle.std.specs.Prelude.{IfOk};
 ghost use Rattle.s3r_names.specs.Version.{IsVersionId};
-ghost use Rattle.s3r_record.specs.Spelling.{HasShortBody};
+ghost use Rattle.s3r_record.specs.Spelling.{MeetsLimits};
 
 use super::*;
 use s3r_names::{BucketName, Bytes, ClassName, Key, NameFault, TagSet, VersionId};
-use s3r_record::Command;
+use s3r_record::{Command, RecordFault, decode};
 use std::alloc::Global;
 use std::process::Abort;
 use std::test::*;
 
 fn create(name: BucketName, locked: bool) -> Command
-    ensures { HasShortBody result }
+    ensures { MeetsLimits result }
 {
     Command::CreateBucket { name, locked }
 }
 
 fn put(alloc: Global, bucket: BucketName, hold: bool) -> Result<Command, NameFault>
-    ensures { IfOk result HasShortBody }
+    ensures { IfOk result MeetsLimits }
 {
     Ok(Command::Put {
         bucket,
@@ -35,7 +35,7 @@ fn next(
     state: &mut State,
     command: Command,
 ) -> Result<Option<Deny>, Fail>
-    requires { HasShortBody command }
+    requires { MeetsLimits command }
 {
     if let Err(deny) = state.accepts(&command) {
         return Ok(Some(deny));
@@ -98,9 +98,11 @@ fn a_hundred_buckets(rt: HostRuntime) -> Result<(), Fail> {
 /// What is done to the bucket `abc` and its key `k`; a version is named by its index.
 #[derive(Clone, Copy, Debug)]
 enum Do {
-    Create,
+    Create(bool),
     Delete,
     Switch(bool),
+    Replicate(u8),
+    Drop,
     Put(bool),
     Mark,
     Remove(u64),
@@ -117,22 +119,38 @@ fn id(index: u64) -> VersionId
     }
 }
 
-fn command_of(alloc: Global, what: Do) -> Result<Command, NameFault>
-    ensures { IfOk result HasShortBody }
+// A configuration of the bucket `abc`: one rule, to a bucket of this region.
+fn replicate(alloc: Global, region: u8) -> Result<Command, RecordFault>
+    ensures { IfOk result MeetsLimits }
+{
+    let mut bytes =
+        b"\x04\x00\x03abc\x00\x01\x00\x01r\x00\x00\x00\x00\x01\x00\x00\x00\x00\x00\x03dst".to_vec(
+            alloc,
+        )?;
+    bytes.push(region)?;
+    bytes.push(0)?;
+    bytes.push(0)?;
+    decode(alloc, &bytes)
+}
+
+fn command_of(alloc: Global, what: Do) -> Result<Command, Fail>
+    ensures { IfOk result MeetsLimits }
 {
     let bucket = BucketName::read(alloc, b"abc")?;
     let key = Key::read(alloc, b"k")?;
     match what {
-        Do::Create => Ok(Command::CreateBucket {
+        Do::Create(locked) => Ok(Command::CreateBucket {
             name: bucket,
-            locked: true,
+            locked,
         }),
         Do::Delete => Ok(Command::DeleteBucket { name: bucket }),
         Do::Switch(enabled) => Ok(Command::SetVersioning {
             name: bucket,
             enabled,
         }),
-        Do::Put(hold) => put(alloc, bucket, hold),
+        Do::Replicate(region) => Ok(replicate(alloc, region)?),
+        Do::Drop => Ok(Command::DropReplication { name: bucket }),
+        Do::Put(hold) => Ok(put(alloc, bucket, hold)?),
         Do::Mark => Ok(Command::Marker { bucket, key }),
         Do::Remove(index) => Ok(Command::Remove {
             bucket,
@@ -154,12 +172,27 @@ fn command_of(alloc: Global, what: Do) -> Result<Command, NameFault>
     }
 }
 
+fn expect_in_turn(
+    rt: &impl Abort,
+    alloc: Global,
+    regions: u32,
+    rows: &[(Do, Option<Refusal>)],
+) -> Result<(), Fail> {
+    let mut state = State::new(alloc, 3, regions);
+    for (what, refusal) in rows {
+        let command = command_of(alloc, *what)?;
+        let answer = next(rt, alloc, &mut state, command)?;
+        assert_eq!(rt; answer, refusal.map(Deny::Refused), "{what:?}");
+    }
+    Ok(())
+}
+
 #[test]
 fn versions_of_a_locked_bucket(rt: HostRuntime) -> Result<(), Fail> {
     let rows = [
         (Do::Delete, Some(Refusal::NoSuchBucket)),
         (Do::Mark, Some(Refusal::NoSuchBucket)),
-        (Do::Create, None),
+        (Do::Create(true), None),
         (Do::Switch(false), Some(Refusal::InvalidBucketState)),
         (Do::Switch(true), None),
         (Do::Put(true), None),
@@ -176,13 +209,30 @@ fn versions_of_a_locked_bucket(rt: HostRuntime) -> Result<(), Fail> {
         (Do::Remove(5), None),
         (Do::Delete, None),
         (Do::Put(false), Some(Refusal::NoSuchBucket)),
-        (Do::Create, None),
+        (Do::Create(true), None),
     ];
-    let mut state = State::new(rt.alloc(), 3, 8);
-    for (what, refusal) in rows {
-        let command = command_of(rt.alloc(), what)?;
-        let answer = next(&rt, rt.alloc(), &mut state, command)?;
-        assert_eq!(rt; answer, refusal.map(Deny::Refused), "{what:?}");
-    }
-    Ok(())
+    expect_in_turn(&rt, rt.alloc(), 8, &rows)
+}
+
+#[test]
+fn configurations_of_a_bucket(rt: HostRuntime) -> Result<(), Fail> {
+    let rows = [
+        (Do::Replicate(5), Some(Refusal::NoSuchRegion { region: 5 })),
+        (Do::Replicate(4), Some(Refusal::NoSuchBucket)),
+        (Do::Drop, Some(Refusal::NoSuchBucket)),
+        (Do::Create(false), None),
+        (Do::Drop, Some(Refusal::NoReplication)),
+        (Do::Replicate(4), None),
+        (Do::Switch(false), Some(Refusal::InvalidBucketState)),
+        (Do::Replicate(0), None),
+        (Do::Drop, None),
+        (Do::Switch(false), None),
+        (Do::Replicate(4), Some(Refusal::InvalidBucketState)),
+        (Do::Switch(true), None),
+        (Do::Replicate(4), None),
+        (Do::Delete, None),
+        (Do::Create(false), None),
+        (Do::Drop, Some(Refusal::NoReplication)),
+    ];
+    expect_in_turn(&rt, rt.alloc(), 5, &rows)
 }

@@ -1,8 +1,8 @@
 -- The rules that are read are a configuration.
-use Rattle.std.proofs.Common.{◌≡◌, ℕ, ◌+◌, ◌≤◌, Bool, true, false, not, ◌&&◌, ◌||◌, nat_le, if◌then◌else◌, List, [], ◌∷◌, ◌++◌, length, Option, Some, None, Result, Ok, Err, IfOk, refl, subst, arith, length-append}
+use Rattle.std.proofs.Common.{◌≡◌, ℕ, ◌+◌, ◌≤◌, Bool, true, false, not, ◌&&◌, ◌||◌, nat_le, nat_lt, if◌then◌else◌, List, [], ◌∷◌, ◌++◌, length, Option, Some, None, Result, Ok, Err, IfOk, refl, subst, arith, length-append}
 use Rattle.std.specs.List.{list_all, list_any}
 use Rattle.std.specs.Str.{chars}
-use Rattle.std.proofs.lemmas.Bool.{and_parts, and_from}
+use Rattle.std.proofs.lemmas.Bool.{and_parts, and_from, ltb-false}
 use Rattle.std.proofs.lemmas.Bool.Decides.{nat_tests}
 use Rattle.s3r_names.specs.declared.tags.Tag.{Tag}
 use Rattle.s3r_names.specs.Bucket.{is_bucket_name}
@@ -13,16 +13,18 @@ use Rattle.s3r_rules.specs.declared.fault.Kind.TheVariants as kind
 use Rattle.s3r_rules.specs.declared.fault.ConfigFault.{ConfigFault}
 use Rattle.s3r_rules.specs.declared.draft.Draft.{Draft}
 use Rattle.s3r_rules.specs.declared.rule.Rule.{Rule}
-use Rattle.s3r_rules.specs.Faults.{◌>>=◌}
+use Rattle.s3r_rules.specs.Faults.{◌>>=◌, or_malformed}
 use Rattle.s3r_rules.specs.Rules.{is_empty, is_class, is_rule, has_id, has_priority, are_apart, is_config}
-use Rattle.s3r_rules.specs.Reading.{wrong, id_text, id_from, priority_from, prefix_from, tags_from, bucket_from, class_from, unless_wrong, rule_beside, rule_from, rules_from}
+use Rattle.s3r_rules.specs.Reading.{wrong, id_text, id_from, priority_from, prefix_from, tags_from, bucket_from, class_from, unless_wrong, rule_beside, rule_from, rules_from, config_from, config_in, config_body}
+use Rattle.s3r_rules.specs.Drafts.{drafts_in}
+use Rattle.s3r_json.specs.Bodies.{body_value}
 
-ok-bind : {A B : Type 0} (P : A → Type 0) (Q : B → Type 0) (r : Result A ConfigFault) (f : A → Result B ConfigFault) → IfOk r P → ((x : A) → P x → IfOk (f x) Q) → IfOk (r >>= f) Q
+pub ok-bind : {A B : Type 0} (P : A → Type 0) (Q : B → Type 0) (r : Result A ConfigFault) (f : A → Result B ConfigFault) → IfOk r P → ((x : A) → P x → IfOk (f x) Q) → IfOk (r >>= f) Q
 ok-bind P Q (Ok x) f h next = next x h
 ok-bind P Q (Err fault) f h next = tt
 
 -- a test that decides between a value and a fault
-ok-if : {A : Type 0} (P : A → Type 0) (b : Bool) (x : A) (n : ℕ) (k : Kind) → (b ≡ true → P x) → IfOk (if b then Ok x else wrong n k) P
+pub ok-if : {A : Type 0} (P : A → Type 0) (b : Bool) (x : A) (n : ℕ) (k : Kind) → (b ≡ true → P x) → IfOk (if b then Ok x else wrong n k) P
 ok-if P true x n k h = h refl
 ok-if P false x n k h = tt
 
@@ -69,7 +71,7 @@ class-is n None = refl
 class-is n (Some name) = ok-if Classed (is_class_name name) (Some name) n kind.BadClass (λ e. e)
 
 -- a rule that has its place behind others
-abbrev Fits : List Rule → Rule → Type 0
+abbrev pub Fits : List Rule → Rule → Type 0
 Fits earlier rule = (is_rule rule ≡ true) × (list_any (has_id rule) earlier ≡ false) × (list_any (has_priority rule) earlier ≡ false)
 
 beside-is : (n : ℕ) (earlier : List Rule) (rule : Rule) → Short rule.id → Low rule.priority → Begins rule.prefix → Set rule.tags → Named rule.bucket → Classed rule.class
@@ -84,7 +86,7 @@ beside-is n earlier rule id priority prefix tags bucket class =
     go false e false f true g = tt
     go false e false f false g = (rw (id, priority, prefix, tags, bucket, class, e) refl, f, g)
 
-rule-is : (n : ℕ) (earlier : List Rule) (draft : Draft) → IfOk (rule_from n earlier draft) (Fits earlier)
+pub rule-is : (n : ℕ) (earlier : List Rule) (draft : Draft) → IfOk (rule_from n earlier draft) (Fits earlier)
 unfolding rule_from
 rule-is n earlier draft =
     ok-bind Short (Fits earlier) (id_from n draft.id) _ (id-is n draft.id)
@@ -97,17 +99,17 @@ rule-is n earlier draft =
 
 -- ---- rules in turn
 
-all-snoc : (test : Rule → Bool) (rules : List Rule) (rule : Rule) → list_all test rules ≡ true → test rule ≡ true → list_all test (rules ++ rule ∷ []) ≡ true
+pub all-snoc : (test : Rule → Bool) (rules : List Rule) (rule : Rule) → list_all test rules ≡ true → test rule ≡ true → list_all test (rules ++ rule ∷ []) ≡ true
 all-snoc test [] rule all one = rw one refl
 all-snoc test (first ∷ rules) rule all one =
     let parts = and_parts (test first) (list_all test rules) all in
     and_from (test first) (list_all test (rules ++ rule ∷ [])) parts.0 (all-snoc test rules rule parts.1 one)
 
-none-parts : (a b : Bool) → (a || b) ≡ false → (not a ≡ true) × (b ≡ false)
+pub none-parts : (a b : Bool) → (a || b) ≡ false → (not a ≡ true) × (b ≡ false)
 none-parts true b e = absurd (cc e)
 none-parts false b e = (refl, e)
 
-apart-snoc : (clash : Rule → Rule → Bool) (rules : List Rule) (rule : Rule) → are_apart clash rules ≡ true → list_any (clash rule) rules ≡ false → are_apart clash (rules ++ rule ∷ []) ≡ true
+pub apart-snoc : (clash : Rule → Rule → Bool) (rules : List Rule) (rule : Rule) → are_apart clash rules ≡ true → list_any (clash rule) rules ≡ false → are_apart clash (rules ++ rule ∷ []) ≡ true
 apart-snoc clash [] rule apart none = refl
 apart-snoc clash (first ∷ rules) rule apart none =
     let parts = and_parts (list_all (λ other. not (clash other first)) rules) (are_apart clash rules) apart in
@@ -115,7 +117,7 @@ apart-snoc clash (first ∷ rules) rule apart none =
     and_from (list_all (λ other. not (clash other first)) (rules ++ rule ∷ [])) (are_apart clash (rules ++ rule ∷ []))
     (all-snoc (λ other. not (clash other first)) rules rule parts.0 no_clash.0) (apart-snoc clash rules rule parts.1 no_clash.1)
 
-abbrev Lawful : List Rule → Type 0
+abbrev pub Lawful : List Rule → Type 0
 Lawful rules = (list_all is_rule rules ≡ true) × (are_apart has_id rules ≡ true) × (are_apart has_priority rules ≡ true)
 
 abbrev Grows : List Rule → List Draft → List Rule → Type 0
@@ -134,7 +136,7 @@ grows (draft ∷ drafts) rules lawful =
     let next : Lawful (rules ++ rule ∷ []) = (all-snoc is_rule rules rule lawful.0 fits.0, apart-snoc has_id rules rule lawful.1 fits.1, apart-snoc has_priority rules rule lawful.2 fits.2) in
     longer draft drafts rules rule (rules_from (rules ++ rule ∷ []) drafts) (length-append rules (rule ∷ [])) (grows drafts (rules ++ rule ∷ []) next))
 
-at_ok : {A : Type 0} (P : A → Type 0) (r : Result A ConfigFault) (x : A) → r ≡ Ok x → IfOk r P → P x
+pub at_ok : {A : Type 0} (P : A → Type 0) (r : Result A ConfigFault) (x : A) → r ≡ Ok x → IfOk r P → P x
 at_ok P r x e h = subst (λ s. IfOk s P) e h
 
 fits_count : (n m : ℕ) → n ≡ m → 1 ≤ m → m ≤ 1000 → (nat_le 1 n && nat_le n 1000) ≡ true
@@ -145,3 +147,28 @@ config_is drafts rules low high e =
     let done = at_ok (Grows [] drafts) (rules_from [] drafts) rules e (grows drafts [] (refl, refl, refl)) in
     let count = fits_count (length rules) (length drafts) (omega (arith, done.1)) low high in
     rw (count, done.0.0, done.0.1, done.0.2) refl
+
+-- so what is read of a body is one
+drafts_lawful : (drafts : List Draft) → IfOk (config_from drafts) (λ rules. is_config rules ≡ true)
+drafts_lawful [] = tt
+drafts_lawful (draft ∷ drafts) = go (nat_lt 1000 (length (draft ∷ drafts))) refl
+  where
+    some : (r : Result (List Rule) ConfigFault) → rules_from [] (draft ∷ drafts) ≡ r → length (draft ∷ drafts) ≤ 1000 → IfOk r (λ rules. is_config rules ≡ true)
+    some (Ok rules) e few = config_is (draft ∷ drafts) rules (omega arith) few e
+    some (Err fault) e few = tt
+
+    go : (b : Bool) → nat_lt 1000 (length (draft ∷ drafts)) ≡ b → IfOk (if b then wrong 0 kind.TooManyRules else rules_from [] (draft ∷ drafts)) (λ rules. is_config rules ≡ true)
+    go true e = tt
+    go false e = some (rules_from [] (draft ∷ drafts)) refl (ltb-false 1000 (length (draft ∷ drafts)) e)
+
+abbrev Any : {X : Type 0} → X → Type 0
+Any x = Unit {0}
+
+any : {X : Type 0} (r : Result X ConfigFault) → IfOk r Any
+any (Ok x) = tt
+any (Err fault) = tt
+
+pub body_lawful : (body : List ℕ) → IfOk (config_body body) (λ rules. is_config rules ≡ true)
+body_lawful body =
+    ok-bind Any (λ rules. is_config rules ≡ true) (or_malformed (body_value body)) config_in (any (or_malformed (body_value body)))
+    (λ value t. ok-bind Any (λ rules. is_config rules ≡ true) (drafts_in value) config_from (any (drafts_in value)) (λ drafts u. drafts_lawful drafts))

@@ -33,14 +33,14 @@ use Rattle.s3r_rules.specs.Printing.{destination_data, both_data, one_tag_data, 
 
 -- ---- the form
 
-filter_for : Rule → Filter
+pub filter_for : Rule → Filter
 filter_for rule = record { prefix = rule.prefix; tags = Some rule.tags }
 
-destination_for : Rule → Destination
+pub destination_for : Rule → Destination
 destination_for rule = record { bucket = Some rule.bucket; class = rule.class }
 
 -- what a rule's value is read as
-draft_for : Rule → Draft
+pub draft_for : Rule → Draft
 unfolding filter_for destination_for
 draft_for rule = record { id = Some rule.id; priority = Some rule.priority; enabled = rule.enabled; filter = filter_for rule; markers = rule.markers; destination = destination_for rule; replica_modifications = rule.replica_modifications }
 
@@ -82,20 +82,20 @@ draft_back rule h b = go rule.replica_modifications rule.markers rule.enabled re
 
 -- ---- the rules in turn
 
-record Facts (rule : Rule) : Type 0 where
-  short : nat_le (length (chars rule.id)) 255 ≡ true
-  low : nat_le rule.priority 2147483647 ≡ true
-  begins : nat_le (length rule.prefix) 1024 ≡ true
-  set : is_tag_set rule.tags ≡ true
-  named : is_bucket_name rule.bucket ≡ true
-  classed : is_class rule.class ≡ true
-  plain : (rule.markers && not (is_empty rule.tags)) ≡ false
+pub record Facts (rule : Rule) : Type 0 where
+  pub short : nat_le (length (chars rule.id)) 255 ≡ true
+  pub low : nat_le rule.priority 2147483647 ≡ true
+  pub begins : nat_le (length rule.prefix) 1024 ≡ true
+  pub set : is_tag_set rule.tags ≡ true
+  pub named : is_bucket_name rule.bucket ≡ true
+  pub classed : is_class rule.class ≡ true
+  pub plain : (rule.markers && not (is_empty rule.tags)) ≡ false
 
 not_true : (b : Bool) → not b ≡ true → b ≡ false
 not_true false e = refl
 not_true true e = absurd (cc e)
 
-facts : (rule : Rule) → is_rule rule ≡ true → Facts rule
+pub facts : (rule : Rule) → is_rule rule ≡ true → Facts rule
 facts rule h =
     let a = nat_le (length (chars rule.id)) 255 in
     let b = nat_le rule.priority 2147483647 in
@@ -108,17 +108,17 @@ facts rule h =
     let p1 = and_parts a b p2.0 in
     record { short = p1.0; low = p1.1; begins = p2.1; set = p3.1; named = p4.1; classed = p5.1; plain = not_true (rule.markers && not (is_empty rule.tags)) p6.1 }
 
-class_back : (n : ℕ) (class : Option (List ℕ)) → is_class class ≡ true → class_from n class ≡ Ok class
+pub class_back : (n : ℕ) (class : Option (List ℕ)) → is_class class ≡ true → class_from n class ≡ Ok class
 class_back n None h = refl
 class_back n (Some name) h = rw h refl
 
-bucket_back : (n : ℕ) (bucket : List ℕ) → is_bucket_name bucket ≡ true → bucket_from n (Some bucket) ≡ Ok bucket
+pub bucket_back : (n : ℕ) (bucket : List ℕ) → is_bucket_name bucket ≡ true → bucket_from n (Some bucket) ≡ Ok bucket
 bucket_back n bucket h = rw h refl
 
-beside_back : (n : ℕ) (earlier : List Rule) (rule : Rule) → Facts rule → list_any (has_id rule) earlier ≡ false → list_any (has_priority rule) earlier ≡ false → rule_beside n earlier rule ≡ Ok rule
+pub beside_back : (n : ℕ) (earlier : List Rule) (rule : Rule) → Facts rule → list_any (has_id rule) earlier ≡ false → list_any (has_priority rule) earlier ≡ false → rule_beside n earlier rule ≡ Ok rule
 beside_back n earlier rule f id priority = rw (f.plain, id, priority) refl
 
-rule_back : (n : ℕ) (earlier : List Rule) (rule : Rule) → Facts rule → list_any (has_id rule) earlier ≡ false → list_any (has_priority rule) earlier ≡ false
+pub rule_back : (n : ℕ) (earlier : List Rule) (rule : Rule) → Facts rule → list_any (has_id rule) earlier ≡ false → list_any (has_priority rule) earlier ≡ false
     → rule_from n earlier (draft_for rule) ≡ Ok rule
 unfolding rule_from draft_for filter_for destination_for
 rule_back n earlier rule f id priority =
@@ -129,7 +129,7 @@ all_has test [] rule rest h = (and_parts (test rule) (list_all test rest) h).0
 all_has test (first ∷ earlier) rule rest h = all_has test earlier rule rest (and_parts (test first) (list_all test (earlier ++ rule ∷ rest)) h).1
 
 -- a rule among others clashes with none before it
-none_before : (clash : Rule → Rule → Bool) (earlier : List Rule) (rule : Rule) (rest : List Rule) → are_apart clash (earlier ++ rule ∷ rest) ≡ true → list_any (clash rule) earlier ≡ false
+pub none_before : (clash : Rule → Rule → Bool) (earlier : List Rule) (rule : Rule) (rest : List Rule) → are_apart clash (earlier ++ rule ∷ rest) ≡ true → list_any (clash rule) earlier ≡ false
 none_before clash [] rule rest h = refl
 none_before clash (first ∷ earlier) rule rest h =
     let parts = and_parts (list_all (λ other. not (clash other first)) (earlier ++ rule ∷ rest)) (are_apart clash (earlier ++ rule ∷ rest)) h in

@@ -58,18 +58,18 @@ pub end_is : (v : ℕ) (end : Option ℕ) (hs : List (List ℕ)) (w : Outside) �
 end_is v None hs w at = ap (λ (k : List (List ℕ)). length (header v 1 ++ records k)) at.0
 end_is v (Some end) hs w at = at.1.place
 
-module _ (v : ℕ) (end : Option ℕ) (h : History) (c : Command) (old new : Outside) (at : IsAtEnd v end (spelled h) old) (lawful : IsLawful v h) (fits : IsCommand c) (accepted : refusal v h c ≡ None) where
-  on_either : (x y : Image) → AtEnd v end (spelled h) (x.volume v) → OnVolume v (MayWrite v end (spelling c)) x y → OnVolume v (IsEither v h c) x y
-  on_either x y was on = on_weaker v (MayWrite v end (spelling c)) (IsEither v h c) x y
+module _ (n v : ℕ) (end : Option ℕ) (h : History) (c : Command) (old new : Outside) (at : IsAtEnd v end (spelled h) old) (lawful : IsLawful n v h) (fits : IsCommand c) (accepted : refusal n v h c ≡ None) where
+  on_either : (x y : Image) → AtEnd v end (spelled h) (x.volume v) → OnVolume v (MayWrite v end (spelling c)) x y → OnVolume v (IsEither n v h c) x y
+  on_either x y was on = on_weaker v (MayWrite v end (spelling c)) (IsEither n v h c) x y
       (λ may. ⊎_elim (λ still. inl (record { stands = still; lawful = lawful })) (λ with. inr (record { stands = with; lawful = (fits, accepted, lawful) })) (either v end (spelled h) (spelling c) (x.volume v) (y.volume v) was may)) on
 
-  on_with : (x y : Image) → AtEnd v end (spelled h) (x.volume v) → OnVolume v (DoesWrite v end (spelling c)) x y → OnVolume v (IsWith v h c) x y
-  on_with x y was on = on_weaker v (DoesWrite v end (spelling c)) (IsWith v h c) x y
+  on_with : (x y : Image) → AtEnd v end (spelled h) (x.volume v) → OnVolume v (DoesWrite v end (spelling c)) x y → OnVolume v (IsWith n v h c) x y
+  on_with x y was on = on_weaker v (DoesWrite v end (spelling c)) (IsWith n v h c) x y
       (λ does. record { stands = inr (unwrap_or end 16 + length (spelling c) + 5, with_record v end (spelled h) (spelling c) (x.volume v) (y.volume v) was does); lawful = (fits, accepted, lawful) }) on
 
-  pub commits : (ok : Bool) → Written v end (spelling c) ok old new → Commits v h c ok old new
+  pub commits : (ok : Bool) → Written v end (spelling c) ok old new → Commits n v h c ok old new
   commits ok did = record {
-    time = elapses_weaker old new (Reached (OnVolume v (MayWrite v end (spelling c))) old.images) (Reached (OnVolume v (IsEither v h c)) old.images) did.time
+    time = elapses_weaker old new (Reached (OnVolume v (MayWrite v end (spelling c))) old.images) (Reached (OnVolume v (IsEither n v h c)) old.images) did.time
         (λ x (m, was, on). (m, was, on_either m x (image_at v end (spelled h) old at m was) on));
     images = λ x now. let from = did.images x now in (from.0, from.1, on_either from.0 x (image_at v end (spelled h) old at from.0 from.1) from.2);
     as_read = on_either old.as_read new.as_read (at_end_of v end (spelled h) old at) did.as_read;
@@ -82,9 +82,9 @@ module _ (v : ℕ) (end : Option ℕ) (h : History) (c : Command) (old new : Out
   end_after did = (did.ready refl, with_record v end (spelled h) (spelling c) (old.as_read.volume v) (new.as_read.volume v) (at_end_of v end (spelled h) old at) (did.read refl).here)
 
 -- nothing was done to a volume that stands for the history
-pub commits_nothing : (v : ℕ) (end : Option ℕ) (h : History) (c : Command) (w : Outside) → IsAtEnd v end (spelled h) w → IsLawful v h → Commits v h c false w w
-commits_nothing v end h c w at lawful = record {
-  time = elapses_none w (Reached (OnVolume v (IsEither v h c)) w.images);
+pub commits_nothing : (n v : ℕ) (end : Option ℕ) (h : History) (c : Command) (w : Outside) → IsAtEnd v end (spelled h) w → IsLawful n v h → Commits n v h c false w w
+commits_nothing n v end h c w at lawful = record {
+  time = elapses_none w (Reached (OnVolume v (IsEither n v h c)) w.images);
   images = λ x now. (x, now, record { here = inl (record { stands = stands_at v end (spelled h) (x.volume v) (image_at v end (spelled h) w at x now); lawful = lawful }); elsewhere = λ u ne. refl; output = refl });
   as_read = record { here = inl (record { stands = stands_at v end (spelled h) (w.as_read.volume v) (at_end_of v end (spelled h) w at); lawful = lawful }); elsewhere = λ u ne. refl; output = refl };
   done = λ t. cc;
@@ -93,24 +93,24 @@ commits_nothing v end h c w at lawful = record {
 }
 
 -- each image of a commit that was made may be one of a commit in doubt
-pub in_doubt : (v : ℕ) (h : History) (c : Command) (old new : Outside) → Commits v h c true old new → Commits v h c false old new
-in_doubt v h c old new did = record { time = did.time; images = did.images; as_read = did.as_read; done = λ t. cc; read = λ t. cc; input = did.input }
+pub in_doubt : (n v : ℕ) (h : History) (c : Command) (old new : Outside) → Commits n v h c true old new → Commits n v h c false old new
+in_doubt n v h c old new did = record { time = did.time; images = did.images; as_read = did.as_read; done = λ t. cc; read = λ t. cc; input = did.input }
 
 -- so many bytes the volume would have with the command
 pub length_is : (v : ℕ) (end : Option ℕ) (h : History) (c : Command) (w : Outside) (bytes : List ℕ) → IsAtEnd v end (spelled h) w → bytes ≡ frame (spelling c) → length_with v h c ≡ unwrap_or end 16 + 1 + length bytes
 length_is v end h c w bytes at is = omega (arith, end_is v end (spelled h) w at, ap length is)
 
 -- a frame that wasn't written
-pub commit_failed : (v : ℕ) (h : History) (c : Command) (room : ℕ) (a b : Held) (old new : Outside) (e : AppendFault) (full : Type 0)
-    → refusal v h c ≡ None
+pub commit_failed : (n v : ℕ) (h : History) (c : Command) (room : ℕ) (a b : Held) (old new : Outside) (e : AppendFault) (full : Type 0)
+    → refusal n v h c ≡ None
     → (e ≡ append.VolumeFull v) ⊎ ((e ≡ append.Volume v) × full)
     → (e ≡ append.VolumeFull v → room < length_with v h c)
     → (e ≡ append.Volume v → length_with v h c ≤ room)
-    → Commits v h c false old new
-    → HasCommitted v h c (Err (fault_of_append e)) room a b old new
-commit_failed v h c room a b old new (append.Volume u) full accepted why passes fits did = (accepted, fits (⊎_elim (λ is. absurd cc) (λ is. is.0) why), did)
-commit_failed v h c room a b old new (append.VolumeFull u) full accepted why passes fits did = (accepted, passes (⊎_elim (λ is. is) (λ is. let no : append.VolumeFull u ≡ append.Volume v = is.0 in absurd cc) why))
+    → Commits n v h c false old new
+    → HasCommitted n v h c (Err (fault_of_append e)) room a b old new
+commit_failed n v h c room a b old new (append.Volume u) full accepted why passes fits did = (accepted, fits (⊎_elim (λ is. absurd cc) (λ is. is.0) why), did)
+commit_failed n v h c room a b old new (append.VolumeFull u) full accepted why passes fits did = (accepted, passes (⊎_elim (λ is. is) (λ is. let no : append.VolumeFull u ≡ append.Volume v = is.0 in absurd cc) why))
 
 -- what a store knows of its volume's bytes
-pub stands_for : (v : ℕ) (held : Held) (h : History) (w : Outside) → Knows v held h w → StandsFor v h (w.as_read.volume v)
-stands_for v held h w knows = record { stands = stands_at v held.end (spelled h) (w.as_read.volume v) (at_end_of v held.end (spelled h) w knows.volume); lawful = knows.lawful }
+pub stands_for : (n v : ℕ) (held : Held) (h : History) (w : Outside) → Knows n v held h w → StandsFor n v h (w.as_read.volume v)
+stands_for n v held h w knows = record { stands = stands_at v held.end (spelled h) (w.as_read.volume v) (at_end_of v held.end (spelled h) w knows.volume); lawful = knows.lawful }

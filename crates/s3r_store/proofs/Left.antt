@@ -12,5 +12,5 @@ at_end_left : (v : ℕ) (end : Option ℕ) (hs : List (List ℕ)) (a b : Outside
 at_end_left v None hs a b left at = (at.0, vacant_left v a b left at.1)
 at_end_left v (Some end) hs a b left at = (ready_left v a b left end at.0, subst (λ (l : List ℕ). StandsTo v hs end l) (sym left.as_read) at.1)
 
-pub knows_left : (v : ℕ) (held : Held) (h : History) (a b : Outside) → Leaves v a b → Knows v held h a → Knows v held h b
-knows_left v held h a b left knows = record { after = knows.after; region = knows.region; lawful = knows.lawful; volume = at_end_left v held.end _ a b left knows.volume }
+pub knows_left : (n v : ℕ) (held : Held) (h : History) (a b : Outside) → Leaves v a b → Knows n v held h a → Knows n v held h b
+knows_left n v held h a b left knows = record { after = knows.after; region = knows.region; regions = knows.regions; lawful = knows.lawful; volume = at_end_left v held.end _ a b left knows.volume }

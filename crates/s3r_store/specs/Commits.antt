@@ -14,22 +14,22 @@ use Rattle.s3r_store.specs.Stands.{spelled, StandsFor}
 use Rattle.s3r_store.specs.Knows.{Knows}
 
 -- the volume stands for the history, or for it with the command
-abbrev pub IsEither : ℕ → History → Command → List ℕ → List ℕ → Type 0
-IsEither v h c old new = StandsFor v h new ⊎ StandsFor v (c ∷ h) new
+abbrev pub IsEither : (n v : ℕ) → History → Command → List ℕ → List ℕ → Type 0
+IsEither n v h c old new = StandsFor n v h new ⊎ StandsFor n v (c ∷ h) new
 
 -- it stands for the history with the command
-abbrev pub IsWith : ℕ → History → Command → List ℕ → List ℕ → Type 0
-IsWith v h c old new = StandsFor v (c ∷ h) new
+abbrev pub IsWith : (n v : ℕ) → History → Command → List ℕ → List ℕ → Type 0
+IsWith n v h c old new = StandsFor n v (c ∷ h) new
 
 -- A command was committed to volume v behind this history, or is in doubt.
-pub record Commits (v : ℕ) (h : History) (c : Command) (ok : Bool) (old new : Outside) : Type 0 where
+pub record Commits (n v : ℕ) (h : History) (c : Command) (ok : Bool) (old new : Outside) : Type 0 where
   -- at each moment each image has the history as before or with the command
-  pub time : Elapses old new (Reached (OnVolume v (IsEither v h c)) old.images)
-  pub images : Follows (OnVolume v (IsEither v h c)) old.images new.images
-  pub as_read : OnVolume v (IsEither v h c) old.as_read new.as_read
+  pub time : Elapses old new (Reached (OnVolume v (IsEither n v h c)) old.images)
+  pub images : Follows (OnVolume v (IsEither n v h c)) old.images new.images
+  pub as_read : OnVolume v (IsEither n v h c) old.as_read new.as_read
   -- after Ok each has the command
-  pub done : IsTrue ok → Follows (OnVolume v (IsWith v h c)) old.images new.images
-  pub read : IsTrue ok → OnVolume v (IsWith v h c) old.as_read new.as_read
+  pub done : IsTrue ok → Follows (OnVolume v (IsWith n v h c)) old.images new.images
+  pub read : IsTrue ok → OnVolume v (IsWith n v h c) old.as_read new.as_read
   pub input : KeepsInput old new
 
 -- so many bytes the volume has with one record more and the gate behind it
@@ -37,14 +37,14 @@ abbrev pub length_with : ℕ → History → Command → ℕ
 length_with v h c = length (header v 1 ++ records (spelled h)) + 1 + length (frame (spelling c))
 
 -- what is held after a commit, and what came of it
-abbrev pub HasCommitted : ℕ → History → Command → Result ℕ StoreFault → ℕ → Held → Held → Outside → Outside → Type 0
-HasCommitted v h c (Ok index) room a b old new =
-    (index ≡ length h + 1) × (refusal v h c ≡ None) × (length_with v h c ≤ room) × Knows v b (c ∷ h) new × Commits v h c true old new
-HasCommitted v h c (Err (faults.Refused f)) room a b old new = refusal v h c ≡ Some f
-HasCommitted v h c (Err (faults.Full u)) room a b old new = (refusal v h c ≡ None) × (room < length_with v h c)
-HasCommitted v h c (Err (faults.Volume u)) room a b old new = (refusal v h c ≡ None) × (length_with v h c ≤ room) × Commits v h c false old new
-HasCommitted v h c (Err (faults.Damaged u offset)) room a b old new = ⊥
-HasCommitted v h c (Err faults.OutOfMemory) room a b old new = (refusal v h c ≡ None) × Commits v h c false old new
+abbrev pub HasCommitted : (n v : ℕ) → History → Command → Result ℕ StoreFault → ℕ → Held → Held → Outside → Outside → Type 0
+HasCommitted n v h c (Ok index) room a b old new =
+    (index ≡ length h + 1) × (refusal n v h c ≡ None) × (length_with v h c ≤ room) × Knows n v b (c ∷ h) new × Commits n v h c true old new
+HasCommitted n v h c (Err (faults.Refused f)) room a b old new = refusal n v h c ≡ Some f
+HasCommitted n v h c (Err (faults.Full u)) room a b old new = (refusal n v h c ≡ None) × (room < length_with v h c)
+HasCommitted n v h c (Err (faults.Volume u)) room a b old new = (refusal n v h c ≡ None) × (length_with v h c ≤ room) × Commits n v h c false old new
+HasCommitted n v h c (Err (faults.Damaged u offset)) room a b old new = ⊥
+HasCommitted n v h c (Err faults.OutOfMemory) room a b old new = (refusal n v h c ≡ None) × Commits n v h c false old new
 
 -- a volume's fault was counted, and is told of that volume
 abbrev pub IsCause : {A : Type 0} → ℕ → Result A StoreFault → Counts → Counts → Type 0

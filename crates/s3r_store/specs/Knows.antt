@@ -20,20 +20,22 @@ abbrev pub IsAtEnd : ℕ → Option ℕ → List (List ℕ) → Outside → Type
 IsAtEnd v None spellings w = (spellings ≡ []) × IsVacant v w
 IsAtEnd v (Some end) spellings w = IsReady v end w × StandsTo v spellings end (w.as_read.volume v)
 
--- The state is after a lawful history, for which the volume stands, with this end, in each image.
-pub record Knows (v : ℕ) (held : Held) (h : History) (w : Outside) : Type 0 where
+-- The state is after a lawful history, for which the volume stands, with this end, in each image. n is the number of
+-- regions.
+pub record Knows (n v : ℕ) (held : Held) (h : History) (w : Outside) : Type 0 where
   pub after : IsAfter held.state h
   pub region : held.state.region ≡ v
-  pub lawful : IsLawful v h
+  pub regions : held.state.regions ≡ n
+  pub lawful : IsLawful n v h
   pub volume : IsAtEnd v held.end (spelled h) w
 
-abbrev pub IsKnown : ℕ → Held → Outside → Type 0
-IsKnown v held w = (h : History) × Knows v held h w
+abbrev pub IsKnown : (n v : ℕ) → Held → Outside → Type 0
+IsKnown n v held w = (h : History) × Knows n v held h w
 
 -- the store was read, and its history is this one
 abbrev pub Holds : Store → History → Outside → Type 0
-Holds store h w = IsSomeAnd store.held (λ held. Knows store.v held h w)
+Holds store h w = IsSomeAnd store.held (λ held. Knows store.regions store.v held h w)
 
 -- where the store was read, it has the history of its volume
 abbrev pub Ties : Store → Outside → Type 0
-Ties store w = IfSome store.held (λ held. IsKnown store.v held w)
+Ties store w = IfSome store.held (λ held. IsKnown store.regions store.v held w)

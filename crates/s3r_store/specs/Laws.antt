@@ -5,4 +5,4 @@ use Rattle.s3r_store.specs.Stands.{StandsFor}
 
 -- no bytes stand for two lawful histories
 abbrev pub OneLawfulHistory : Type 0
-OneLawfulHistory = (region : ℕ) (bytes : List ℕ) (h k : History) → StandsFor region h bytes → StandsFor region k bytes → h ≡ k
+OneLawfulHistory = (n region : ℕ) (bytes : List ℕ) (h k : History) → StandsFor n region h bytes → StandsFor n region k bytes → h ≡ k

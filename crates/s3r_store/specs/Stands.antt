@@ -13,22 +13,22 @@ abbrev pub spelled : History → List (List ℕ)
 spelled [] = []
 spelled (c ∷ h) = spelled h ++ spelling c ∷ []
 
--- the bytes stand for this history, which is lawful
-pub record StandsFor (region : ℕ) (h : History) (bytes : List ℕ) : Type 0 where
+-- the bytes stand for this history, which is lawful; n is the number of regions
+pub record StandsFor (n region : ℕ) (h : History) (bytes : List ℕ) : Type 0 where
   pub stands : Stands region (spelled h) bytes
-  pub lawful : IsLawful region h
+  pub lawful : IsLawful n region h
 
 -- what is found at a place behind a history is damaged, at this offset, or is no command that the history accepts
-abbrev pub IsWrong : ℕ → History → ℕ → ℕ → Finding → Type 0
-IsWrong region h at offset no_header = ⊥
-IsWrong region h at offset (damaged_at place) = offset ≡ place
-IsWrong region h at offset (end_at gate) = ⊥
-IsWrong region h at offset (one_record s next) = (offset ≡ at) × ((c : Command) → IsCommand c → s ≡ spelling c → refusal region h c ≡ None → ⊥)
+abbrev pub IsWrong : (n region : ℕ) → History → ℕ → ℕ → Finding → Type 0
+IsWrong n region h at offset no_header = ⊥
+IsWrong n region h at offset (damaged_at place) = offset ≡ place
+IsWrong n region h at offset (end_at gate) = ⊥
+IsWrong n region h at offset (one_record s next) = (offset ≡ at) × ((c : Command) → IsCommand c → s ≡ spelling c → refusal n region h c ≡ None → ⊥)
 
 -- The volume is read up to a place as a lawful history, and is wrong there.
-pub record DamagedAt (region offset : ℕ) (bytes : List ℕ) : Type 0 where
+pub record DamagedAt (n region offset : ℕ) (bytes : List ℕ) : Type 0 where
   pub h : History
   pub at : ℕ
-  pub lawful : IsLawful region h
+  pub lawful : IsLawful n region h
   pub read : IsReadTo region (spelled h) at bytes
-  pub wrong : IsWrong region h at offset (finding region at bytes)
+  pub wrong : IsWrong n region h at offset (finding region at bytes)

@@ -24,11 +24,11 @@ abbrev pub end_of : Store → ℕ
 end_of store = end_in store.held
 
 -- what a commit behind this history came to
-abbrev pub StoreCommits : ℕ → History → Command → Result ℕ StoreFault → ℕ → Store → Store → Outside → Outside → Type 0
-StoreCommits v h c (Ok index) room a b old new =
-    (index ≡ length h + 1) × (refusal v h c ≡ None) × (length_with v h c ≤ room) × Holds b (c ∷ h) new × Commits v h c true old new
-StoreCommits v h c (Err (faults.Refused f)) room a b old new = refusal v h c ≡ Some f
-StoreCommits v h c (Err (faults.Full u)) room a b old new = (refusal v h c ≡ None) × (room < length_with v h c)
-StoreCommits v h c (Err (faults.Volume u)) room a b old new = (refusal v h c ≡ None) × (length_with v h c ≤ room) × (b.held ≡ None) × Commits v h c false old new
-StoreCommits v h c (Err (faults.Damaged u offset)) room a b old new = ⊥
-StoreCommits v h c (Err faults.OutOfMemory) room a b old new = (refusal v h c ≡ None) × (b.held ≡ None) × Commits v h c false old new
+abbrev pub StoreCommits : (n v : ℕ) → History → Command → Result ℕ StoreFault → ℕ → Store → Store → Outside → Outside → Type 0
+StoreCommits n v h c (Ok index) room a b old new =
+    (index ≡ length h + 1) × (refusal n v h c ≡ None) × (length_with v h c ≤ room) × Holds b (c ∷ h) new × Commits n v h c true old new
+StoreCommits n v h c (Err (faults.Refused f)) room a b old new = refusal n v h c ≡ Some f
+StoreCommits n v h c (Err (faults.Full u)) room a b old new = (refusal n v h c ≡ None) × (room < length_with v h c)
+StoreCommits n v h c (Err (faults.Volume u)) room a b old new = (refusal n v h c ≡ None) × (length_with v h c ≤ room) × (b.held ≡ None) × Commits n v h c false old new
+StoreCommits n v h c (Err (faults.Damaged u offset)) room a b old new = ⊥
+StoreCommits n v h c (Err faults.OutOfMemory) room a b old new = (refusal n v h c ≡ None) × (b.held ≡ None) × Commits n v h c false old new

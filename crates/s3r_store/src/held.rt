@@ -1,5 +1,5 @@
 //! What a store holds of a volume that was read.
-ghost use Rattle.std.specs.Prelude.{◌≡◌, ◌+◌, ◌≤◌, ◌<◌, IsTrue, OnOk, unwrap_or};
+ghost use Rattle.std.specs.Prelude.{◌≡◌, ℕ, ◌+◌, ◌≤◌, ◌<◌, IsTrue, OnOk, unwrap_or};
 ghost use Rattle.s3r_world.specs.Outside.{KeepsShape, NoneFalls};
 ghost use Rattle.s3r_history.specs.Words.{History};
 ghost use Rattle.s3r_record.specs.Spelling.{IsCommand};
@@ -40,7 +40,7 @@ impl Held {
         requires ready { IsTrue W.tells → CanCommit v self.old.end (W.outside world.old) }
         requires few { self.old.state.commands + 16 ≤ unwrap_or self.old.end 16 }
         requires fits { IsCommand command }
-        ensures told { IsTrue W.tells → (h : History) → Knows v self.old h (W.outside world.old) → HasCommitted v h command result ((W.shape world.old).room v) self.old self.new (W.outside world.old) (W.outside world.new) }
+        ensures told { IsTrue W.tells → (h : History) → (n : ℕ) → Knows n v self.old h (W.outside world.old) → HasCommitted n v h command result ((W.shape world.old).room v) self.old self.new (W.outside world.old) (W.outside world.new) }
         ensures few { OnOk result (self.new.state.commands + 16 ≤ unwrap_or self.new.end 16) }
         ensures denied { WhereDenied result ((self.new ≡ self.old) × (world.new ≡ world.old)) }
         ensures cause { IsCause v result (W.faults world.old) (W.faults world.new) }

@@ -61,9 +61,9 @@ pub fn read_volume<W: World>(
     requires volume { v < (W.shape world.old).volumes }
     requires region { v ≤ 7 }
     ensures told { IsTrue W.tells → Looks (W.outside world.old) (W.outside world.new) }
-    ensures known { IsTrue W.tells → IfOk result (λ held. IsKnown v held (W.outside world.new)) }
+    ensures known { IsTrue W.tells → IfOk result (λ held. IsKnown regions v held (W.outside world.new)) }
     ensures few { IfOk result (λ held. held.state.commands + 16 ≤ unwrap_or held.end 16) }
-    ensures damage { IsTrue W.tells → IfErr result (IsDamage v ((W.outside world.old).as_read.volume v)) }
+    ensures damage { IsTrue W.tells → IfErr result (IsDamage regions v ((W.outside world.old).as_read.volume v)) }
     ensures cause { IfErr result (λ e. HasCause v e (W.faults world.old) (W.faults world.new)) }
     ensures counts { NoneFalls (W.faults world.old) (W.faults world.new) }
     ensures goes { W.goes world.old world.new }

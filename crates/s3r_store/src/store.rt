@@ -94,7 +94,7 @@ impl Store {
         ensures unread { OnErr result (self.new.held ≡ None) }
         ensures v { self.new.v ≡ self.old.v }
         ensures regions { self.new.regions ≡ self.old.regions }
-        ensures damage { IsTrue W.tells → IfErr result (IsDamage self.old.v ((W.outside world.old).as_read.volume self.old.v)) }
+        ensures damage { IsTrue W.tells → IfErr result (IsDamage self.old.regions self.old.v ((W.outside world.old).as_read.volume self.old.v)) }
         ensures cause { IfErr result (λ e. HasCause self.old.v e (W.faults world.old) (W.faults world.new)) }
         ensures counts { NoneFalls (W.faults world.old) (W.faults world.new) }
         ensures goes { W.goes world.old world.new }
@@ -123,7 +123,7 @@ impl Store {
         requires region { self.old.v ≤ 7 }
         requires tied { IsTrue W.tells → Ties self.old (W.outside world.old) }
         requires fits { IsCommand command }
-        ensures told { IsTrue W.tells → (h : History) → Holds self.old h (W.outside world.old) → StoreCommits self.old.v h command result ((W.shape world.old).room self.old.v) self.old self.new (W.outside world.old) (W.outside world.new) }
+        ensures told { IsTrue W.tells → (h : History) → Holds self.old h (W.outside world.old) → StoreCommits self.old.regions self.old.v h command result ((W.shape world.old).room self.old.v) self.old self.new (W.outside world.old) (W.outside world.new) }
         ensures v { self.new.v ≡ self.old.v }
         ensures regions { self.new.regions ≡ self.old.regions }
         ensures denied { WhereDenied result ((self.new.held ≡ self.old.held) × (world.new ≡ world.old)) }

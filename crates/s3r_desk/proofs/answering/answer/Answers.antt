@@ -1,7 +1,6 @@
-use Rattle.std.proofs.Common.{◌≡◌, ℕ, List, length, sym, ◌∙◌, ap, subst}
+use Rattle.std.proofs.Common.{◌≡◌, List, length, sym, ◌∙◌, ap, subst}
 use Rattle.std.proofs.lemmas.Result.{err_from_is_err_and}
 use Rattle.s3r_store.specs.declared.store.Store.{Store}
-use Rattle.s3r_desk.specs.declared.planning.Plan.{Plan}
 use Rattle.s3r_desk.specs.declared.planning.Plan.TheVariants.{Shows, Commits}
 use Rattle.s3r_desk.specs.Events.{history_at}
 use Rattle.s3r_desk.specs.Lookups.{views_of}
@@ -23,12 +22,12 @@ returns-in-Shows-clause-told g c = λ told before keeps.
     let planned : plan (length c.args.stores.now.items) (views_of c.args.stores.now.items) c.args.request ≡ Shows c.in-Shows.answer =
     sym (ap (λ (l : List Store). plan (length l) (views_of l) c.args.request) c.deref.ensures.value) ∙ sym c.in_ok-answer.ensures.planned ∙ c.in-Shows.is in
     came_shown before (step (length c.args.stores.now.items) (history_at before) c.args.request) _ stores stores (g.W.World.outside c.args.world.now) (g.W.World.outside c.args.world.now) c.in-Shows.answer
-    (step_is before c.args.stores.now.items _ keeps c.requires.read c.args.request ∙ ap (made_of (history_at before)) planned) (looks_none _) keeps
+    (step_is before c.args.stores.now.items _ keeps c.requires.read c.args.request ∙ ap (made_of (length c.args.stores.now.items) (history_at before)) planned) (looks_none _) keeps
 
 pub returns-in-Commits-clause-told : goal.returns-in-Commits-clause-told
 returns-in-Commits-clause-told g c = λ told before keeps.
     let planned : plan (length c.args.stores.now.items) (views_of c.args.stores.now.items) c.args.request ≡ Commits c.in-Commits.region c.in-Commits.command c.in-Commits.reply =
     sym (ap (λ (l : List Store). plan (length l) (views_of l) c.args.request) c.deref.ensures.value) ∙ sym c.in_ok-answer.ensures.planned ∙ c.in-Commits.is in
     subst (λ (s : Step). Came before s c.make.result (g.W.World.shape c.args.world.now).room c.args.stores.now.items c.make.new.stores.items (g.W.World.outside c.args.world.now) (g.W.World.outside c.make.new.world))
-    (sym (step_is before c.args.stores.now.items _ keeps c.requires.read c.args.request ∙ ap (made_of (history_at before)) planned))
+    (sym (step_is before c.args.stores.now.items _ keeps c.requires.read c.args.request ∙ ap (made_of (length c.args.stores.now.items) (history_at before)) planned))
     (c.make.ensures.told told before keeps)

@@ -36,12 +36,13 @@ returns-in-Ok-clause-told g c = λ told before h keeps is.
     let s = c.index_mut.result.now in
     let at = get_at c.args.stores.now.items c.args.region c.index_mut.result.now (omega arith) c.index_mut.ensures.value in
     let number = c.requires.numbered.v c.args.region c.index_mut.result.now at in
+    let regions = c.requires.numbered.regions c.args.region c.index_mut.result.now at in
     let old = g.W.World.outside c.args.world.now in
     let new = g.W.World.outside c.commit.new.world in
     let read = c.requires.read c.args.region c.index_mut.result.now at in
-    let holds = holds_here before 0 c.args.region h c.args.command 0 c.args.stores.now.items s old (omega arith) at number keeps is read in
-    commits_one before (length c.args.stores.now.items) c.args.region h c.args.command ((g.W.World.shape c.args.world.now).room c.args.region) c.args.stores.now.items s old (omega arith) at number keeps is read c.commit.new.self new (c.in-Ok.ensures.v ∙ number) (Ok c.in-Ok.index) (g.W.World.faults c.args.world.now) (g.W.World.faults c.commit.new.world)
-    (subst (λ (m : ℕ). StoreCommits m h c.args.command (Ok c.in-Ok.index) ((g.W.World.shape c.args.world.now).room m) s c.commit.new.self old new) number (c.in-Ok.ensures.told told h holds))
+    let holds = holds_here before (length c.args.stores.now.items) c.args.region h c.args.command 0 c.args.stores.now.items s old (omega arith) at number regions keeps is read in
+    commits_one before (length c.args.stores.now.items) c.args.region h c.args.command ((g.W.World.shape c.args.world.now).room c.args.region) c.args.stores.now.items s old (omega arith) at number regions keeps is read c.commit.new.self new (c.in-Ok.ensures.v ∙ number) (c.in-Ok.ensures.regions ∙ regions) (Ok c.in-Ok.index) (g.W.World.faults c.args.world.now) (g.W.World.faults c.commit.new.world)
+    (subst (λ (m : ℕ). StoreCommits s.regions m h c.args.command (Ok c.in-Ok.index) ((g.W.World.shape c.args.world.now).room m) s c.commit.new.self old new) number (c.in-Ok.ensures.told told h holds))
     tt
     tt
 
@@ -55,13 +56,14 @@ returns-in-Err-Refused-clause-told g c = λ told before h keeps is.
     let s = c.index_mut.result.now in
     let at = get_at c.args.stores.now.items c.args.region c.index_mut.result.now (omega arith) c.index_mut.ensures.value in
     let number = c.requires.numbered.v c.args.region c.index_mut.result.now at in
+    let regions = c.requires.numbered.regions c.args.region c.index_mut.result.now at in
     let old = g.W.World.outside c.args.world.now in
     let new = g.W.World.outside c.commit.new.world in
     let read = c.requires.read c.args.region c.index_mut.result.now at in
-    let holds = holds_here before 0 c.args.region h c.args.command 0 c.args.stores.now.items s old (omega arith) at number keeps is read in
-    commits_one before (length c.args.stores.now.items) c.args.region h c.args.command ((g.W.World.shape c.args.world.now).room c.args.region) c.args.stores.now.items s old (omega arith) at number keeps is read c.commit.new.self new (c.in-Err-Refused.ensures.v ∙ number) (Err (store.Refused c.in-Err-Refused.refusal)) (g.W.World.faults c.args.world.now) (g.W.World.faults c.commit.new.world)
-    (subst (λ (m : ℕ). StoreCommits m h c.args.command (Err (store.Refused c.in-Err-Refused.refusal)) ((g.W.World.shape c.args.world.now).room m) s c.commit.new.self old new) number
-    (subst (λ (e : StoreFault). StoreCommits s.v h c.args.command (failed_with e) ((g.W.World.shape c.args.world.now).room s.v) s c.commit.new.self old new) c.in-Err-Refused.field-0-is (c.in-Err-Refused.ensures.told told h holds)))
+    let holds = holds_here before (length c.args.stores.now.items) c.args.region h c.args.command 0 c.args.stores.now.items s old (omega arith) at number regions keeps is read in
+    commits_one before (length c.args.stores.now.items) c.args.region h c.args.command ((g.W.World.shape c.args.world.now).room c.args.region) c.args.stores.now.items s old (omega arith) at number regions keeps is read c.commit.new.self new (c.in-Err-Refused.ensures.v ∙ number) (c.in-Err-Refused.ensures.regions ∙ regions) (Err (store.Refused c.in-Err-Refused.refusal)) (g.W.World.faults c.args.world.now) (g.W.World.faults c.commit.new.world)
+    (subst (λ (m : ℕ). StoreCommits s.regions m h c.args.command (Err (store.Refused c.in-Err-Refused.refusal)) ((g.W.World.shape c.args.world.now).room m) s c.commit.new.self old new) number
+    (subst (λ (e : StoreFault). StoreCommits s.regions s.v h c.args.command (failed_with e) ((g.W.World.shape c.args.world.now).room s.v) s c.commit.new.self old new) c.in-Err-Refused.field-0-is (c.in-Err-Refused.ensures.told told h holds)))
     (let denied = subst (λ (e : StoreFault). WhereDenied (failed_with e) ((c.commit.new.self.held ≡ s.held) × (c.commit.new.world ≡ c.args.world.now))) c.in-Err-Refused.field-0-is c.in-Err-Refused.ensures.denied in
     (subst (λ w. Looks (g.W.World.outside c.args.world.now) (g.W.World.outside w)) (sym denied.1) (looks_none (g.W.World.outside c.args.world.now)), denied.0))
     (subst (λ (m : ℕ). IsCause m (failed_with (store.Refused c.in-Err-Refused.refusal)) (g.W.World.faults c.args.world.now) (g.W.World.faults c.commit.new.world)) number
@@ -77,13 +79,14 @@ returns-in-Err-Full-clause-told g c = λ told before h keeps is.
     let s = c.index_mut.result.now in
     let at = get_at c.args.stores.now.items c.args.region c.index_mut.result.now (omega arith) c.index_mut.ensures.value in
     let number = c.requires.numbered.v c.args.region c.index_mut.result.now at in
+    let regions = c.requires.numbered.regions c.args.region c.index_mut.result.now at in
     let old = g.W.World.outside c.args.world.now in
     let new = g.W.World.outside c.commit.new.world in
     let read = c.requires.read c.args.region c.index_mut.result.now at in
-    let holds = holds_here before 0 c.args.region h c.args.command 0 c.args.stores.now.items s old (omega arith) at number keeps is read in
-    commits_one before (length c.args.stores.now.items) c.args.region h c.args.command ((g.W.World.shape c.args.world.now).room c.args.region) c.args.stores.now.items s old (omega arith) at number keeps is read c.commit.new.self new (c.in-Err-Full.ensures.v ∙ number) (Err (store.Full c.in-Err-Full.v)) (g.W.World.faults c.args.world.now) (g.W.World.faults c.commit.new.world)
-    (subst (λ (m : ℕ). StoreCommits m h c.args.command (Err (store.Full c.in-Err-Full.v)) ((g.W.World.shape c.args.world.now).room m) s c.commit.new.self old new) number
-    (subst (λ (e : StoreFault). StoreCommits s.v h c.args.command (failed_with e) ((g.W.World.shape c.args.world.now).room s.v) s c.commit.new.self old new) c.in-Err-Full.field-0-is (c.in-Err-Full.ensures.told told h holds)))
+    let holds = holds_here before (length c.args.stores.now.items) c.args.region h c.args.command 0 c.args.stores.now.items s old (omega arith) at number regions keeps is read in
+    commits_one before (length c.args.stores.now.items) c.args.region h c.args.command ((g.W.World.shape c.args.world.now).room c.args.region) c.args.stores.now.items s old (omega arith) at number regions keeps is read c.commit.new.self new (c.in-Err-Full.ensures.v ∙ number) (c.in-Err-Full.ensures.regions ∙ regions) (Err (store.Full c.in-Err-Full.v)) (g.W.World.faults c.args.world.now) (g.W.World.faults c.commit.new.world)
+    (subst (λ (m : ℕ). StoreCommits s.regions m h c.args.command (Err (store.Full c.in-Err-Full.v)) ((g.W.World.shape c.args.world.now).room m) s c.commit.new.self old new) number
+    (subst (λ (e : StoreFault). StoreCommits s.regions s.v h c.args.command (failed_with e) ((g.W.World.shape c.args.world.now).room s.v) s c.commit.new.self old new) c.in-Err-Full.field-0-is (c.in-Err-Full.ensures.told told h holds)))
     (let denied = subst (λ (e : StoreFault). WhereDenied (failed_with e) ((c.commit.new.self.held ≡ s.held) × (c.commit.new.world ≡ c.args.world.now))) c.in-Err-Full.field-0-is c.in-Err-Full.ensures.denied in
     (subst (λ w. Looks (g.W.World.outside c.args.world.now) (g.W.World.outside w)) (sym denied.1) (looks_none (g.W.World.outside c.args.world.now)), denied.0))
     (subst (λ (m : ℕ). IsCause m (failed_with (store.Full c.in-Err-Full.v)) (g.W.World.faults c.args.world.now) (g.W.World.faults c.commit.new.world)) number
@@ -99,13 +102,14 @@ returns-in-Err-Volume-clause-told g c = λ told before h keeps is.
     let s = c.index_mut.result.now in
     let at = get_at c.args.stores.now.items c.args.region c.index_mut.result.now (omega arith) c.index_mut.ensures.value in
     let number = c.requires.numbered.v c.args.region c.index_mut.result.now at in
+    let regions = c.requires.numbered.regions c.args.region c.index_mut.result.now at in
     let old = g.W.World.outside c.args.world.now in
     let new = g.W.World.outside c.commit.new.world in
     let read = c.requires.read c.args.region c.index_mut.result.now at in
-    let holds = holds_here before 0 c.args.region h c.args.command 0 c.args.stores.now.items s old (omega arith) at number keeps is read in
-    commits_one before (length c.args.stores.now.items) c.args.region h c.args.command ((g.W.World.shape c.args.world.now).room c.args.region) c.args.stores.now.items s old (omega arith) at number keeps is read c.commit.new.self new (c.in-Err-Volume.ensures.v ∙ number) (Err (store.Volume c.in-Err-Volume.v)) (g.W.World.faults c.args.world.now) (g.W.World.faults c.commit.new.world)
-    (subst (λ (m : ℕ). StoreCommits m h c.args.command (Err (store.Volume c.in-Err-Volume.v)) ((g.W.World.shape c.args.world.now).room m) s c.commit.new.self old new) number
-    (subst (λ (e : StoreFault). StoreCommits s.v h c.args.command (failed_with e) ((g.W.World.shape c.args.world.now).room s.v) s c.commit.new.self old new) c.in-Err-Volume.field-0-is (c.in-Err-Volume.ensures.told told h holds)))
+    let holds = holds_here before (length c.args.stores.now.items) c.args.region h c.args.command 0 c.args.stores.now.items s old (omega arith) at number regions keeps is read in
+    commits_one before (length c.args.stores.now.items) c.args.region h c.args.command ((g.W.World.shape c.args.world.now).room c.args.region) c.args.stores.now.items s old (omega arith) at number regions keeps is read c.commit.new.self new (c.in-Err-Volume.ensures.v ∙ number) (c.in-Err-Volume.ensures.regions ∙ regions) (Err (store.Volume c.in-Err-Volume.v)) (g.W.World.faults c.args.world.now) (g.W.World.faults c.commit.new.world)
+    (subst (λ (m : ℕ). StoreCommits s.regions m h c.args.command (Err (store.Volume c.in-Err-Volume.v)) ((g.W.World.shape c.args.world.now).room m) s c.commit.new.self old new) number
+    (subst (λ (e : StoreFault). StoreCommits s.regions s.v h c.args.command (failed_with e) ((g.W.World.shape c.args.world.now).room s.v) s c.commit.new.self old new) c.in-Err-Volume.field-0-is (c.in-Err-Volume.ensures.told told h holds)))
     tt
     (subst (λ (m : ℕ). IsCause m (failed_with (store.Volume c.in-Err-Volume.v)) (g.W.World.faults c.args.world.now) (g.W.World.faults c.commit.new.world)) number
     (subst (λ (e : StoreFault). IsCause s.v (failed_with e) (g.W.World.faults c.args.world.now) (g.W.World.faults c.commit.new.world)) c.in-Err-Volume.field-0-is c.in-Err-Volume.ensures.cause))
@@ -120,13 +124,14 @@ returns-in-Err-OutOfMemory-clause-told g c = λ told before h keeps is.
     let s = c.index_mut.result.now in
     let at = get_at c.args.stores.now.items c.args.region c.index_mut.result.now (omega arith) c.index_mut.ensures.value in
     let number = c.requires.numbered.v c.args.region c.index_mut.result.now at in
+    let regions = c.requires.numbered.regions c.args.region c.index_mut.result.now at in
     let old = g.W.World.outside c.args.world.now in
     let new = g.W.World.outside c.commit.new.world in
     let read = c.requires.read c.args.region c.index_mut.result.now at in
-    let holds = holds_here before 0 c.args.region h c.args.command 0 c.args.stores.now.items s old (omega arith) at number keeps is read in
-    commits_one before (length c.args.stores.now.items) c.args.region h c.args.command ((g.W.World.shape c.args.world.now).room c.args.region) c.args.stores.now.items s old (omega arith) at number keeps is read c.commit.new.self new (c.in-Err-OutOfMemory.ensures.v ∙ number) (Err store.OutOfMemory) (g.W.World.faults c.args.world.now) (g.W.World.faults c.commit.new.world)
-    (subst (λ (m : ℕ). StoreCommits m h c.args.command (Err store.OutOfMemory) ((g.W.World.shape c.args.world.now).room m) s c.commit.new.self old new) number
-    (subst (λ (e : StoreFault). StoreCommits s.v h c.args.command (failed_with e) ((g.W.World.shape c.args.world.now).room s.v) s c.commit.new.self old new) c.in-Err-OutOfMemory.field-0-is (c.in-Err-OutOfMemory.ensures.told told h holds)))
+    let holds = holds_here before (length c.args.stores.now.items) c.args.region h c.args.command 0 c.args.stores.now.items s old (omega arith) at number regions keeps is read in
+    commits_one before (length c.args.stores.now.items) c.args.region h c.args.command ((g.W.World.shape c.args.world.now).room c.args.region) c.args.stores.now.items s old (omega arith) at number regions keeps is read c.commit.new.self new (c.in-Err-OutOfMemory.ensures.v ∙ number) (c.in-Err-OutOfMemory.ensures.regions ∙ regions) (Err store.OutOfMemory) (g.W.World.faults c.args.world.now) (g.W.World.faults c.commit.new.world)
+    (subst (λ (m : ℕ). StoreCommits s.regions m h c.args.command (Err store.OutOfMemory) ((g.W.World.shape c.args.world.now).room m) s c.commit.new.self old new) number
+    (subst (λ (e : StoreFault). StoreCommits s.regions s.v h c.args.command (failed_with e) ((g.W.World.shape c.args.world.now).room s.v) s c.commit.new.self old new) c.in-Err-OutOfMemory.field-0-is (c.in-Err-OutOfMemory.ensures.told told h holds)))
     tt
     (subst (λ (m : ℕ). IsCause m (failed_with store.OutOfMemory) (g.W.World.faults c.args.world.now) (g.W.World.faults c.commit.new.world)) number
     (subst (λ (e : StoreFault). IsCause s.v (failed_with e) (g.W.World.faults c.args.world.now) (g.W.World.faults c.commit.new.world)) c.in-Err-OutOfMemory.field-0-is c.in-Err-OutOfMemory.ensures.cause))

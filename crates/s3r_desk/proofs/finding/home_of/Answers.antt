@@ -1,4 +1,4 @@
-use Rattle.std.proofs.Common.{◌≡◌, ◌-◌, length, Option, None, option_copied, sym, ap, ◌∙◌}
+use Rattle.std.proofs.Common.{length, option_copied, sym, ap, ◌∙◌}
 use Rattle.std.specs.Option.{option_and_then}
 use Rattle.s3r_desk.specs.Lookups.{told_in, views_of}
 use Rattle.s3r_desk.proofs.Places.{get_at}

@@ -1,4 +1,4 @@
-use Rattle.std.proofs.Common.{◌<◌, ℕ, Option, IfSome, subst}
+use Rattle.std.proofs.Common.{◌<◌, Option, IfSome, subst}
 use Rattle.s3r_desk.specs.declared.home.Home.{Home}
 use Rattle.s3r_desk.proofs.planning.delete_object.Goals as goal
 

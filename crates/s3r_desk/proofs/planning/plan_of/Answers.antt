@@ -20,3 +20,6 @@ returns-in-PutTags-clause-fits c = c.put_tags.ensures.fits _ c.home_of-home-in-P
 
 pub returns-in-PutHold-clause-fits : goal.returns-in-PutHold-clause-fits
 returns-in-PutHold-clause-fits c = c.put_hold.ensures.fits _ c.home_of-home-in-PutHold.ensures.within
+
+pub returns-in-DeleteReplication-clause-fits : goal.returns-in-DeleteReplication-clause-fits
+returns-in-DeleteReplication-clause-fits c = c.delete_replication.ensures.fits _ c.home_of-home-in-DeleteReplication.ensures.within

@@ -4,15 +4,15 @@ use Rattle.s3r_store.specs.declared.held.Held.{Held}
 use Rattle.s3r_desk.specs.Keeping.{IsHeld}
 use Rattle.s3r_desk.proofs.tests.expect_in_turn.Goals as goal
 
-unread : (r : ℕ) (held : Option Held) (w : Outside) → held ≡ None → IsHeld [] r held w
-unread r held w none = subst (λ (o : Option Held). IsHeld [] r o w) (sym none) refl
+unread : (n r : ℕ) (held : Option Held) (w : Outside) → held ≡ None → IsHeld n [] r held w
+unread n r held w none = subst (λ (o : Option Held). IsHeld n [] r o w) (sym none) refl
 
 pub loop-ask-init : goal.loop-ask-init
 loop-ask-init g c = record {
   volumes = c.requires;
   count = c.in_ok-desk.ensures.count;
   numbered = c.in_ok-desk.ensures.numbered;
-  kept = λ told. ([], λ r s get. unread r s.held _ (c.in_ok-desk.ensures.fresh r s get));
+  kept = λ told. ([], λ r s get. unread s.regions r s.held _ (c.in_ok-desk.ensures.fresh r s get));
 }
 
 pub loop-ask-preserved : goal.loop-ask-preserved

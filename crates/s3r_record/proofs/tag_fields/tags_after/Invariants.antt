@@ -5,4 +5,4 @@ use Rattle.s3r_record.proofs.TagLoop.{go_on}
 use Rattle.s3r_record.proofs.tag_fields.tags_after.Given as goal
 
 abbrev pub invariant-loop : goal.invariant-loop
-invariant-loop l = go_on l.tags.items l.count l.counter (unread l.rest) ≡ tags_after l.count None (unread l.left)
+invariant-loop l = go_on l.rule l.tags.items l.count l.counter (unread l.rest) ≡ tags_after l.rule l.count None (unread l.left)

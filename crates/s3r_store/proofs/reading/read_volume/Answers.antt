@@ -1,4 +1,4 @@
-use Rattle.std.proofs.Common.{◌≡◌, ℕ, List, [], ◌∷◌, ◌++◌, None, Ok, Err, Result, inr, sym, ◌∙◌, ap, subst, arith}
+use Rattle.std.proofs.Common.{◌≡◌, ℕ, List, [], ◌∷◌, ◌++◌, Ok, Err, Result, inr, sym, ◌∙◌, ap, subst, arith}
 use Rattle.std.proofs.lemmas.Result.{err_from_is_err_and}
 use Rattle.s3r_world.specs.Image.{Image}
 use Rattle.s3r_world.specs.Moments.{looks_then, shape_then, falls_then}
@@ -10,7 +10,7 @@ use Rattle.s3r_journal.specs.Scan.{ReadsOn}
 use Rattle.s3r_store.specs.Stands.{spelled}
 use Rattle.s3r_store.specs.Faults.{fault_of_scan}
 use Rattle.s3r_store.specs.Reads.{IsDamage}
-use Rattle.s3r_history.specs.Accepts.{refusal}
+use Rattle.s3r_store.proofs.Histories.{accepted_as}
 use Rattle.s3r_store.proofs.Damaged.{scan_damage, command_damage}
 use Rattle.s3r_store.proofs.reading.read_volume.Goals as goal
 
@@ -29,7 +29,7 @@ returns-in_err-scan-clause-damage g c = λ told.
     let scans = c.in_err-scan.ensures.told told in
     let same = ap (λ (i : Image). i.volume c.args.v) (c.records.invariant.told told).as_read in
     let reads = subst (λ (l : List ℕ). ReadsOn c.args.v (spelled known.0) c.records.from l (fault_told c.in_err-scan.field-0.0)) (ap (λ (i : Image). i.volume c.args.v) scans.looks.as_read) (scans.reads (spelled known.0) (known.4 told)) in
-    rw (p.1, p.2) (subst (λ (l : List ℕ). IsDamage c.args.v l (fault_of_scan c.in_err-scan.field-0.0)) same (scan_damage v c.records.from _ known.0 known.2 (known.4 told) e scans.answer reads))
+    rw (p.1, p.2) (subst (λ (l : List ℕ). IsDamage c.args.regions c.args.v l (fault_of_scan c.in_err-scan.field-0.0)) same (scan_damage c.args.regions v c.records.from _ known.0 known.2 (known.4 told) e scans.answer reads))
 
 pub returns-in-End-clause-few : goal.returns-in-End-clause-few
 returns-in-End-clause-few g c =
@@ -46,8 +46,8 @@ returns-in_err-take_in-in-Record-clause-damage g c = λ told.
     let answer = rw c.in-Record.is at scans.answer in
     let reads = rw c.in-Record.is at (scans.reads (spelled known.0) (known.4 told)) in
     let front = subst (λ (l : List ℕ). Front c.args.v (spelled known.0 ++ c.in-Record.bytes.items ∷ []) c.in-Record.next l) (ap (λ (i : Image). i.volume c.args.v) scans.looks.as_read) reads in
-    rw (p.1, p.2) (subst (λ (l : List ℕ). IsDamage c.args.v l c.in_err-take_in-in-Record.field-0.0) same
-    (command_damage c.args.v c.records.from _ known.0 known.2 (known.4 told) (Unit {0}) c.in-Record.bytes.items _ c.in-Record.next _ _ c.in_err-take_in-in-Record.field-0.0 c.deref.ensures.value answer front known.1 c.records.invariant.region c.in_err-take_in-in-Record.ensures.told))
+    rw (p.1, p.2) (subst (λ (l : List ℕ). IsDamage c.args.regions c.args.v l c.in_err-take_in-in-Record.field-0.0) same
+    (command_damage c.args.regions c.args.v c.records.from _ known.0 known.2 (known.4 told) (Unit {0}) c.in-Record.bytes.items _ c.in-Record.next _ _ c.in_err-take_in-in-Record.field-0.0 c.deref.ensures.value answer front known.1 c.records.invariant.regions c.records.invariant.region c.in_err-take_in-in-Record.ensures.told))
 
 pub records-preserved : goal.records-preserved
 records-preserved g c =
@@ -60,13 +60,14 @@ records-preserved g c =
       known = (
         one.command ∷ known.0,
         one.after,
-        (one.fits, subst (λ r. refusal r known.0 one.command ≡ None) c.records.invariant.region one.accepted, known.2),
+        (one.fits, accepted_as _ _ _ _ known.0 one.command c.records.invariant.regions c.records.invariant.region one.accepted, known.2),
         omega (arith, next.0, known.3),
         λ told.
             let reads = rw c.in-Record.is at ((c.in_ok-scan.ensures.told told).reads (spelled known.0) (known.4 told)) in
             inr (subst (λ (s : List ℕ). Front c.args.v (spelled known.0 ++ s ∷ []) c.in-Record.next ((g.W.World.outside c.scan.new.world).as_read.volume c.args.v)) spelled_so reads),
       );
       region = takes.1 ∙ c.records.invariant.region;
+      regions = takes.2 ∙ c.records.invariant.regions;
       told = λ told. looks_then _ _ _ (c.records.invariant.told told) (c.in_ok-scan.ensures.told told).looks;
       counts = falls_then _ _ _ c.records.invariant.counts c.in_ok-scan.ensures.counts;
       goes = g.met.W.World.goes_then _ _ _ c.records.invariant.goes c.in_ok-scan.ensures.goes;

@@ -9,9 +9,10 @@ use Rattle.s3r_store.proofs.reading.read_volume.Given as goal
 
 abbrev pub invariant-records : goal.invariant-records
 invariant-records g l = record {
-  known : (h : History) × IsAfter l.state h × IsLawful l.v h × (length h + 16 ≤ l.from)
+  known : (h : History) × IsAfter l.state h × IsLawful l.regions l.v h × (length h + 16 ≤ l.from)
       × (IsTrue g.W.World.tells → IsReadTo l.v (spelled h) l.from ((g.W.World.outside l.world).as_read.volume l.v));
   region : l.state.region ≡ l.v;
+  regions : l.state.regions ≡ l.regions;
   told : IsTrue g.W.World.tells → Looks (g.W.World.outside l.fn.world) (g.W.World.outside l.world);
   counts : NoneFalls (g.W.World.faults l.fn.world) (g.W.World.faults l.world);
   goes : g.W.World.goes l.fn.world l.world;

@@ -4,7 +4,7 @@ use Rattle.s3r_names.specs.declared.stamp.Stamp.{Stamp}
 use Rattle.s3r_history.specs.Deeds.{version, marker}
 use Rattle.s3r_region.specs.declared.change.Change.TheVariants as change
 use Rattle.s3r_region.specs.Changes.{with_change}
-use Rattle.s3r_region.proofs.Steps.{applied, with_added, after-create, after-delete, after-switch, after-put, after-marker, after-remove, after-tags, after-hold}
+use Rattle.s3r_region.proofs.Steps.{applied, with_added, after-create, after-delete, after-switch, after-replicate, after-drop, after-put, after-marker, after-remove, after-tags, after-hold}
 use Rattle.s3r_region.proofs.state.State.apply.Goals as goal
 
 pub returns-in-CreateBucket-clause-after : goal.returns-in-CreateBucket-clause-after
@@ -21,6 +21,16 @@ pub returns-in-SetVersioning-clause-after : goal.returns-in-SetVersioning-clause
 returns-in-SetVersioning-clause-after c =
     on_ok_weaker c.change.result
     (λ e. applied c.args.self.now _ _ _ _ c.in-SetVersioning.is e (λ h a ok. after-switch c.args.self.now h c.in-SetVersioning.name c.in-SetVersioning.enabled a)) c.change.ensures.changed
+
+pub returns-in-SetReplication-clause-after : goal.returns-in-SetReplication-clause-after
+returns-in-SetReplication-clause-after c =
+    on_ok_weaker c.change-in-SetReplication.result
+    (λ e. applied c.args.self.now _ _ _ _ c.in-SetReplication.is e (λ h a ok. after-replicate c.args.self.now h c.in-SetReplication.name c.in-SetReplication.config c.in-SetReplication.regions a)) c.change-in-SetReplication.ensures.changed
+
+pub returns-in-DropReplication-clause-after : goal.returns-in-DropReplication-clause-after
+returns-in-DropReplication-clause-after c =
+    on_ok_weaker c.change-in-DropReplication.result
+    (λ e. applied c.args.self.now _ _ _ _ c.in-DropReplication.is e (λ h a ok. after-drop c.args.self.now h c.in-DropReplication.name a)) c.change-in-DropReplication.ensures.changed
 
 pub returns-in-Put-clause-after : goal.returns-in-Put-clause-after
 returns-in-Put-clause-after c =

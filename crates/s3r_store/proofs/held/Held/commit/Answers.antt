@@ -1,70 +1,70 @@
-use Rattle.std.proofs.Common.{◌≡◌, ◌+◌, ℕ, List, ◌∷◌, length, true, false, Result, Err, Some, None, unwrap_or, sym, ◌∙◌, ap, subst, ⊎_elim, arith}
+use Rattle.std.proofs.Common.{◌≡◌, ◌+◌, ℕ, List, ◌∷◌, length, true, false, Result, Err, Some, unwrap_or, sym, ◌∙◌, ap, subst, ⊎_elim, arith}
 use Rattle.std.proofs.lemmas.Bool.{cases_lt}
 use Rattle.std.proofs.lemmas.Result.{err_from_is_err_and}
 use Rattle.s3r_record.specs.Spelling.{spelling}
-use Rattle.s3r_record.proofs.Lengths.{spelling_short, short_body}
+use Rattle.s3r_record.proofs.Lengths.{spelling_short, meets_limits}
 use Rattle.s3r_journal.specs.declared.writing.AppendFault.{AppendFault}
 use Rattle.s3r_journal.specs.declared.writing.AppendFault.TheVariants as append
-use Rattle.s3r_history.specs.Accepts.{refusal}
 use Rattle.s3r_store.specs.Writes.{Written}
 use Rattle.s3r_store.specs.Knows.{IsAtEnd}
 use Rattle.s3r_store.specs.Stands.{spelled}
+use Rattle.s3r_store.proofs.Histories.{accepted_as}
 use Rattle.s3r_store.proofs.Frames.{frame_length, frame_is, is_frame}
 use Rattle.s3r_store.proofs.Committed.{commits, commits_nothing, commit_failed, end_after, in_doubt, length_is}
 use Rattle.s3r_store.proofs.held.Held.commit.Goals as goal
 
 pub encode-requires : goal.encode-requires
-encode-requires g c = short_body c.args.command c.requires.fits
+encode-requires g c = meets_limits c.args.command c.requires.fits
 
 pub write-requires-clause-frame : goal.write-requires-clause-frame
 write-requires-clause-frame g c = is_frame (spelling c.args.command) _ (c.deref.ensures.value ∙ c.in_ok-frame.ensures.framed) (spelling_short c.args.command c.requires.fits)
 
 pub returns-in_err-frame-clause-told : goal.returns-in_err-frame-clause-told
-returns-in_err-frame-clause-told g c = λ told h knows.
+returns-in_err-frame-clause-told g c = λ told h n knows.
     let p = err_from_is_err_and c.from_residual-in_err-frame.result c.from_residual-in_err-frame.ensures.1 in
-    rw (p.1, p.2) (subst (λ r. refusal r h c.args.command ≡ None) knows.region (c.in_ok-accepts.ensures h knows.after), commits_nothing c.args.v c.args.self.now.end h c.args.command (g.W.World.outside c.args.world.now) knows.volume knows.lawful)
+    rw (p.1, p.2) (accepted_as _ _ _ _ h c.args.command knows.regions knows.region (c.in_ok-accepts.ensures h knows.after), commits_nothing n c.args.v c.args.self.now.end h c.args.command (g.W.World.outside c.args.world.now) knows.volume knows.lawful)
 
 one_fault : (a b : AppendFault) → (let failed : AppendFault → Result ℕ AppendFault = λ e. Err e in failed a ≡ failed b) → a ≡ b
 one_fault a b e = cc
 
 pub returns-in_err-end-clause-told : goal.returns-in_err-end-clause-told
-returns-in_err-end-clause-told g c = λ told h knows.
+returns-in_err-end-clause-told g c = λ told h n knows.
     let p = err_from_is_err_and c.from_residual-in_err-end.result c.from_residual-in_err-end.ensures.1 in
     let old = g.W.World.outside c.args.world.now in
     let new = g.W.World.outside c.write.new.world in
     let whole = c.deref.ensures.value ∙ c.in_ok-frame.ensures.framed in
     let is = frame_is (spelling c.args.command) _ whole in
     let size = length_is c.args.v c.args.self.now.end h c.args.command old c.deref.result.now knows.volume whole in
-    let accepted = subst (λ r. refusal r h c.args.command ≡ None) knows.region (c.in_ok-accepts.ensures h knows.after) in
-    rw (p.1, p.2) (commit_failed c.args.v h c.args.command _ _ _ old new c.in_err-end.field-0.0 _ accepted c.in_err-end.ensures.fault
+    let accepted = accepted_as _ _ _ _ h c.args.command knows.regions knows.region (c.in_ok-accepts.ensures h knows.after) in
+    rw (p.1, p.2) (commit_failed n c.args.v h c.args.command _ _ _ old new c.in_err-end.field-0.0 _ accepted c.in_err-end.ensures.fault
     (λ passes. omega (arith, size, c.in_err-end.ensures.full.0 (ap (λ e. Err e) passes)))
     (λ fault. ⊎_elim
     (λ lt. absurd (let no : append.Volume c.args.v ≡ append.VolumeFull c.args.v = sym fault ∙ one_fault _ _ (c.in_err-end.ensures.full.1 (omega (arith, size, lt))) in cc))
     (λ le. le)
     (cases_lt _ _))
-    (commits c.args.v c.args.self.now.end h c.args.command old new knows.volume knows.lawful c.requires.fits accepted false (subst (λ (s : List ℕ). Written c.args.v c.args.self.now.end s false old new) is (c.in_err-end.ensures.told told))))
+    (commits n c.args.v c.args.self.now.end h c.args.command old new knows.volume knows.lawful c.requires.fits accepted false (subst (λ (s : List ℕ). Written c.args.v c.args.self.now.end s false old new) is (c.in_err-end.ensures.told told))))
 
 pub returns-in_err-apply-clause-told : goal.returns-in_err-apply-clause-told
-returns-in_err-apply-clause-told g c = λ told h knows.
+returns-in_err-apply-clause-told g c = λ told h n knows.
     let p = err_from_is_err_and c.from_residual-in_err-apply.result c.from_residual-in_err-apply.ensures.1 in
     let old = g.W.World.outside c.args.world.now in
     let new = g.W.World.outside c.write.new.world in
     let is = frame_is (spelling c.args.command) _ (c.deref.ensures.value ∙ c.in_ok-frame.ensures.framed) in
-    let accepted = subst (λ r. refusal r h c.args.command ≡ None) knows.region (c.in_ok-accepts.ensures h knows.after) in
+    let accepted = accepted_as _ _ _ _ h c.args.command knows.regions knows.region (c.in_ok-accepts.ensures h knows.after) in
     rw (p.1, p.2) (
       accepted,
-      in_doubt c.args.v h c.args.command old new
-          (commits c.args.v c.args.self.now.end h c.args.command old new knows.volume knows.lawful c.requires.fits accepted true (subst (λ (s : List ℕ). Written c.args.v c.args.self.now.end s true old new) is (c.in_ok-end.ensures.told told))),
+      in_doubt n c.args.v h c.args.command old new
+          (commits n c.args.v c.args.self.now.end h c.args.command old new knows.volume knows.lawful c.requires.fits accepted true (subst (λ (s : List ℕ). Written c.args.v c.args.self.now.end s true old new) is (c.in_ok-end.ensures.told told))),
     )
 
 pub returns-clause-told : goal.returns-clause-told
-returns-clause-told g c = λ told h knows.
+returns-clause-told g c = λ told h n knows.
     let old = g.W.World.outside c.args.world.now in
     let new = g.W.World.outside c.write.new.world in
     let whole = c.deref.ensures.value ∙ c.in_ok-frame.ensures.framed in
     let is = frame_is (spelling c.args.command) _ whole in
     let size = length_is c.args.v c.args.self.now.end h c.args.command old c.deref.result.now knows.volume whole in
-    let accepted = subst (λ r. refusal r h c.args.command ≡ None) knows.region (c.in_ok-accepts.ensures h knows.after) in
+    let accepted = accepted_as _ _ _ _ h c.args.command knows.regions knows.region (c.in_ok-accepts.ensures h knows.after) in
     let written = subst (λ (s : List ℕ). Written c.args.v c.args.self.now.end s true old new) is (c.in_ok-end.ensures.told told) in
     let after = c.in_ok-apply.ensures.after h knows.after (c.in_ok-accepts.ensures h knows.after) in
     let end : unwrap_or c.args.self.now.end 16 + length (spelling c.args.command) + 5 ≡ c.in_ok-end.end = omega (arith, frame_length (spelling c.args.command) _ whole, c.in_ok-end.ensures.end) in (
@@ -74,10 +74,11 @@ returns-clause-told g c = λ told h knows.
       record {
         after = after;
         region = c.in_ok-apply.ensures.region ∙ knows.region;
+        regions = c.in_ok-apply.ensures.regions ∙ knows.regions;
         lawful = (c.requires.fits, accepted, knows.lawful);
-        volume = subst (λ (e : ℕ). IsAtEnd c.args.v (Some e) (spelled (c.args.command ∷ h)) new) end (end_after c.args.v c.args.self.now.end h c.args.command old new knows.volume knows.lawful c.requires.fits accepted written);
+        volume = subst (λ (e : ℕ). IsAtEnd c.args.v (Some e) (spelled (c.args.command ∷ h)) new) end (end_after n c.args.v c.args.self.now.end h c.args.command old new knows.volume knows.lawful c.requires.fits accepted written);
       },
-      commits c.args.v c.args.self.now.end h c.args.command old new knows.volume knows.lawful c.requires.fits accepted true written,
+      commits n c.args.v c.args.self.now.end h c.args.command old new knows.volume knows.lawful c.requires.fits accepted true written,
     )
 
 pub returns-clause-few : goal.returns-clause-few

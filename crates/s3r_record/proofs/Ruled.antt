@@ -1,0 +1,25 @@
+-- What reading tells of a command: its fields meet their rules. Its length is told where the bytes are counted.
+use Rattle.std.proofs.Common.{◌≤◌, length, IsTrue}
+use Rattle.std.specs.List.{list_all}
+use Rattle.s3r_names.specs.Bucket.{is_bucket_name}
+use Rattle.s3r_rules.specs.Rules.{is_config}
+use Rattle.s3r_record.specs.declared.command.Command.{Command}
+use Rattle.s3r_record.specs.declared.command.Command.TheVariants as command
+use Rattle.s3r_record.specs.Placing.{IsPlaced, has_texts}
+use Rattle.s3r_record.specs.Spelling.{spelling, IsCommand}
+
+abbrev pub Ruled : Command → Type 0
+Ruled (command.SetReplication name config regions) = IsTrue (is_bucket_name name) × IsTrue (is_config config) × IsPlaced config regions × IsTrue (list_all has_texts config)
+Ruled c = IsCommand c
+
+pub ruled_is : (c : Command) → Ruled c → length (spelling c) ≤ 16777216 → IsCommand c
+ruled_is (command.SetReplication name config regions) ruled short = (ruled.0, ruled.1, ruled.2, short, ruled.3)
+ruled_is (command.CreateBucket name locked) ruled short = ruled
+ruled_is (command.DeleteBucket name) ruled short = ruled
+ruled_is (command.SetVersioning name enabled) ruled short = ruled
+ruled_is (command.DropReplication name) ruled short = ruled
+ruled_is (command.Put bucket key tags hold class bytes) ruled short = ruled
+ruled_is (command.Marker bucket key) ruled short = ruled
+ruled_is (command.Remove bucket key id) ruled short = ruled
+ruled_is (command.SetTags bucket key id tags) ruled short = ruled
+ruled_is (command.SetHold bucket key id hold) ruled short = ruled
