@@ -1,67 +1,14 @@
-//! The replication desk as a program: HTTP requests are taken from the input, and each is answered on the output once
-//! its command is stable in the volume of its region.
+//! The replication desk as a program: the words that it is started with, over the real world.
 #![tactic(auto)]
 
-ghost use Rattle.std.specs.Prelude.{◌≡◌, ◌↔◌, map, string_bytes, IsTrue};
-ghost use Rattle.s3r_world.specs.Outside.{KeepsShape, NoneFalls, Rises};
-ghost use Rattle.s3r.specs.Served.{Ran, IsSound, StaysSound, IsStatus};
-ghost use Rattle.s3r.specs.Words.{AreMeant};
-
-mod sending;
-mod serve;
-mod stop;
-#[cfg(test)]
-mod tests;
-mod words;
-
-use s3r_world::{MemoryWorld, RealWorld, World};
-use serve::serve;
-use std::alloc::Global;
+use s3r_service::{place_of, s3r};
+use s3r_world::{MemoryWorld, RealWorld};
 use std::process::ExitCode;
 use std::rt::Env;
 use std::{env, io};
-use words::{place_of, read_words};
-
-/// The words aren't the program's.
-const NOT_MEANT: u8 = 2;
 
 /// There was no memory.
 const NO_MEMORY: u8 = 6;
-
-/// Does what the words say, over a world with as many volumes as they say. It answers the status that the program
-/// ends with.
-pub fn s3r<W: World>(alloc: Global, words: &[String], world: &mut W) -> u8
-    ensures meant { (result ≡ 2) ↔ (AreMeant (map string_bytes words.now) ((W.shape world.old).volumes) → ⊥) }
-    ensures unmeant { result ≡ 2 → world.new ≡ world.old }
-    ensures known { IsStatus result }
-
-    // Which requests were taken, what each came to, and what a crash at each moment may leave.
-    ensures done { IsTrue W.tells → AreMeant (map string_bytes words.now) ((W.shape world.old).volumes) →
-        Ran result (W.shape world.old).volumes (W.shape world.old).room (W.outside world.old) (W.outside world.new) (W.faults world.old) (W.faults world.new) }
-
-    // Volumes that stand for lawful histories do so after a crash at any moment.
-    ensures sound { IsTrue W.tells → AreMeant (map string_bytes words.now) ((W.shape world.old).volumes) → IsSound (W.shape world.old).volumes (W.outside world.old) →
-        StaysSound (W.shape world.old).volumes (W.outside world.old) (W.outside world.new) }
-
-    // Each fault of the outside was counted.
-    ensures input { result ≡ 3 → Rises 1 (W.faults world.old).input (W.faults world.new).input }
-    ensures output { result ≡ 4 → Rises 1 (W.faults world.old).output (W.faults world.new).output }
-
-    ensures counts { NoneFalls (W.faults world.old) (W.faults world.new) }
-    ensures goes { W.goes world.old world.new }
-    ensures shape { KeepsShape (W.shape world.old) (W.shape world.new) }
-{
-    let Some(words) = read_words(words) else {
-        return NOT_MEANT;
-    };
-    if words.regions != world.volumes() {
-        return NOT_MEANT;
-    }
-    match serve(alloc, world, words.regions) {
-        Ok(ending) => ending.status(),
-        Err(stop) => stop.status(),
-    }
-}
 
 // The words that the program was started with, without its name.
 fn words_given(rt: &(impl Env + AllocGlobal)) -> io::Result<Vec<String>> {

@@ -1,5 +1,5 @@
 -- What is true of each request that is read, and of each reason why one isn't.
-use Rattle.std.proofs.Common.{◌≡◌, ◌≤◌, if◌then◌else◌, ℕ, List, [], ◌∷◌, length, Option, Some, None, Bool, true, false, refl, ◌∙◌, nat_lt, IfOk, IfErr, Result, Ok, Err, codes}
+use Rattle.std.proofs.Common.{◌≡◌, ◌≤◌, if◌then◌else◌, ℕ, List, [], ◌∷◌, length, Option, Some, None, Bool, true, false, refl, sym, subst, ◌∙◌, nat_lt, IfOk, IfErr, Result, Ok, Err, codes}
 use Rattle.serde_json.specs.Data.{Data}
 use Rattle.serde_json.specs.Read.{read}
 use Rattle.std.specs.Str.{is_utf8}
@@ -17,8 +17,8 @@ use Rattle.s3r_rules.specs.declared.fault.ConfigFault.{ConfigFault}
 use Rattle.s3r_rules.specs.declared.fault.ConfigFault.TheVariants as config
 use Rattle.s3r_rules.specs.declared.rule.Rule.{Rule}
 use Rattle.s3r_rules.specs.Rules.{is_config}
-use Rattle.s3r_rules.specs.Reading.{config_body}
-use Rattle.s3r_rules.proofs.Growing.{body_lawful}
+use Rattle.s3r_rules_json.specs.Reading.{config_body}
+use Rattle.s3r_rules_json.proofs.Lawful.{body_lawful}
 use Rattle.s3r_record.specs.Spelling.{fits_record}
 use Rattle.s3r_http.specs.declared.message.RawRequest.{RawRequest}
 use Rattle.s3r_json.specs.declared.fault.BodyFault.{BodyFault}
@@ -42,13 +42,14 @@ use Rattle.s3r_routes.proofs.Limits.{limit-least}
 use Rattle.s3r_desk.specs.declared.request.Request.{Request}
 use Rattle.s3r_desk.specs.declared.request.Request.TheVariants as request
 use Rattle.s3r_desk.specs.Steps.{IsRequest, IsNamed}
+use Rattle.s3r_api.specs.declared.request.Written.{Written}
 use Rattle.s3r_api.specs.declared.problem.Problem.{Problem}
 use Rattle.s3r_api.specs.declared.problem.Problem.TheVariants as problem
 use Rattle.s3r_api.specs.Problems.{Gives, IsOfRequest}
 use Rattle.s3r_api.specs.Faults.{of_route, of_body, of_config, routed, from_body, from_config}
 use Rattle.s3r_api.specs.Location.{location_in, region_of_text, region_of_value, region_of}
 use Rattle.s3r_api.specs.Lines.{first_line, lock_word, locked_by, tags_in, tags_by, hold_word, hold_by, class_in, class_by}
-use Rattle.s3r_api.specs.Request.{◌>>=◌, asked_at, limit_asked, id_behind, place_behind, list_request, if_recorded, replication_request, bucket_asked, put_request, version_asked, is_put, object_asked, bucket_request, object_request, other_request, request_at}
+use Rattle.s3r_api.specs.Request.{◌>>=◌, asked_at, limit_asked, id_behind, place_behind, list_request, if_recorded, replication_request, bucket_asked, written_by, put_request, version_asked, is_put, object_asked, bucket_request, object_request, other_request, request_at}
 
 -- a result whose value has P, and whose reason is one of a framed request
 abbrev pub Told : {X : Type 0} → (X → Type 0) → Result X Problem → Type 0
@@ -291,11 +292,19 @@ told-bucket raw bytes =
 
 -- ---- an object's requests
 
+abbrev IsWritten : RawRequest → Written → Type 0
+IsWritten raw put = Set put.tags × Classed put.class × (put.body ≡ raw.body)
+
+told-written : (raw : RawRequest) → Told (IsWritten raw) (written_by raw)
+told-written raw =
+    told-bind Set (IsWritten raw) (tags_by raw) _ (told-tags (first_line (codes "x-amz-tagging") raw))
+    (λ tags set. told-bind Any (IsWritten raw) (hold_by raw) _ (told-hold (first_line (codes "x-amz-object-lock-legal-hold") raw))
+    (λ hold any. told-bind Classed (IsWritten raw) (class_by raw) _ (told-class (first_line (codes "x-amz-storage-class") raw)) (λ class classed. (set, classed, refl))))
+
 told-put : (raw : RawRequest) (name key : List ℕ) → Named name → Keyed key → Told (Fits raw) (put_request raw name key)
 told-put raw name key named keyed =
-    told-bind Set (Fits raw) (tags_by raw) _ (told-tags (first_line (codes "x-amz-tagging") raw))
-    (λ tags set. told-bind Any (Fits raw) (hold_by raw) _ (told-hold (first_line (codes "x-amz-object-lock-legal-hold") raw))
-    (λ hold any. told-bind Classed (Fits raw) (class_by raw) _ (told-class (first_line (codes "x-amz-storage-class") raw)) (λ class classed short. (named, keyed, set, classed, short))))
+    told-bind (IsWritten raw) (Fits raw) (written_by raw) _ (told-written raw)
+    (λ put is short. (named, keyed, is.0, is.1, subst (λ (body : List ℕ). length body ≤ 4194304) (sym is.2) short))
 
 told-version_asked : (raw : RawRequest) (name key : List ℕ) (version : Option VersionId) (r : Route) → Named name → Keyed key → IsNamed version
     → Told (Fits raw) (version_asked raw name key version r)

@@ -6,7 +6,7 @@ use Rattle.serde_json.specs.Written.{compact_text}
 use Rattle.s3r_names.specs.declared.version.VersionId.{VersionId}
 use Rattle.s3r_rules.specs.declared.fault.Kind.{Kind}
 use Rattle.s3r_rules.specs.Kinds.{kind_text}
-use Rattle.s3r_rules.specs.Printing.{config_data}
+use Rattle.s3r_rules_json.specs.Printing.{config_data}
 use Rattle.s3r_history.specs.declared.refusal.Refusal.{Refusal}
 use Rattle.s3r_history.specs.declared.refusal.Refusal.TheVariants as refusal
 use Rattle.s3r_http.specs.declared.message.Field.{Field}

@@ -3,7 +3,7 @@ use Rattle.std.specs.Prelude.{ℕ, Bool, true, false, if◌then◌else◌, is_so
 use Rattle.std.specs.Str.{bytes_eq}
 use Rattle.s3r_names.specs.declared.version.VersionId.{VersionId}
 use Rattle.s3r_rules.specs.declared.rule.Rule.{Rule}
-use Rattle.s3r_rules.specs.Reading.{config_body}
+use Rattle.s3r_rules_json.specs.Reading.{config_body}
 use Rattle.s3r_record.specs.Spelling.{fits_record}
 use Rattle.s3r_http.specs.declared.message.RawRequest.{RawRequest}
 use Rattle.s3r_json.specs.Status.{status_body}
@@ -20,6 +20,7 @@ use Rattle.s3r_routes.specs.Values.{given, limit_of, version_of}
 use Rattle.s3r_versions.specs.declared.listing.Place.{Place as Behind}
 use Rattle.s3r_desk.specs.declared.request.Request.{Request}
 use Rattle.s3r_desk.specs.declared.request.Request.TheVariants as request
+use Rattle.s3r_api.specs.declared.request.Written.{Written}
 use Rattle.s3r_api.specs.declared.problem.Problem.{Problem}
 use Rattle.s3r_api.specs.declared.problem.Problem.TheVariants.{NoSuchRoute, UnknownQuery, InvalidQuery, ConfigurationTooLong}
 use Rattle.s3r_api.specs.Faults.{routed, from_body, from_config}
@@ -90,12 +91,16 @@ bucket_asked raw words name other = Err UnknownQuery
 
 -- ---- what is asked of an object
 
-abbrev pub put_request : RawRequest → List ℕ → List ℕ → Result Request Problem
-put_request raw name key = do
+-- what a put's lines and its body say
+abbrev pub written_by : RawRequest → Result Written Problem
+written_by raw = do
   tags ← tags_by raw
   hold ← hold_by raw
   class ← class_by raw
-  Ok (request.PutObject name key raw.body tags hold class)
+  Ok (record { body = raw.body; tags = tags; hold = hold; class = class })
+
+abbrev pub put_request : RawRequest → List ℕ → List ℕ → Result Request Problem
+put_request raw name key = written_by raw >>= λ put. Ok (request.PutObject name key put.body put.tags put.hold put.class)
 
 abbrev pub tags_request : RawRequest → List ℕ → List ℕ → Option VersionId → Result Request Problem
 tags_request raw name key version = from_body (tags_body raw.body) >>= λ tags. Ok (request.PutTags name key version tags false)

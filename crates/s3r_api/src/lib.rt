@@ -14,8 +14,3 @@ mod request;
 pub use answer::{answer_bytes, ids_are_spelled, problem_bytes};
 pub use problem::{Problem, framing_problem};
 pub use request::{is_head, to_request};
-
-#[cfg(test)]
-mod listing_tests;
-#[cfg(test)]
-mod tests;

@@ -5,7 +5,7 @@ ghost use Rattle.serde_json.specs.Data.{no_members, member, string, number, unsi
 ghost use Rattle.serde_json.specs.View.{view};
 ghost use Rattle.serde_json.specs.Written.{compact_text};
 ghost use Rattle.s3r_json.specs.Tags.{tags_data};
-ghost use Rattle.s3r_rules.specs.Printing.{config_data};
+ghost use Rattle.s3r_rules_json.specs.Printing.{config_data};
 ghost use Rattle.s3r_api.specs.Listings.{listing_data};
 ghost use Rattle.s3r_api.specs.Replies.{json_reply, status_reply, hold_word, versioning_word, code_data, code_text, coded, region_members, rule_members, kind_reply, refusal_reply, fault_reply, problem_reply};
 
@@ -16,6 +16,7 @@ use s3r_desk::{DeskFault, Listing, Refusal};
 use s3r_json::{status_text, tags_text};
 use s3r_names::TagSet;
 use s3r_rules::{Config, Kind};
+use s3r_rules_json::print_config;
 use serde_json::{Value, json};
 use std::alloc::{AllocError, Global};
 
@@ -152,7 +153,7 @@ pub fn config_reply(alloc: Global, config: &Config) -> Result<JsonReply, AllocEr
 {
     Ok(JsonReply {
         status: StatusCode::OK,
-        body: config.print(alloc)?,
+        body: print_config(alloc, config)?,
     })
 }
 

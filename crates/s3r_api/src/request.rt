@@ -5,7 +5,7 @@ ghost use Rattle.s3r_desk.specs.Steps.{IsRequest};
 ghost use Rattle.s3r_routes.specs.Places.{seen};
 ghost use Rattle.s3r_api.specs.Problems.{Gives, GivesBy, IsOfRequest};
 ghost use Rattle.s3r_api.specs.Asking.{asked_seen};
-ghost use Rattle.s3r_api.specs.Request.{is_head, create_request, versioning_request, if_recorded, replication_request, bucket_asked, put_request, tags_request, hold_request, version_asked, is_put, object_asked, asked_at, bucket_request, object_request, other_request, request_at, request_of};
+ghost use Rattle.s3r_api.specs.Request.{is_head, create_request, versioning_request, if_recorded, replication_request, bucket_asked, written_by, put_request, tags_request, hold_request, version_asked, is_put, object_asked, asked_at, bucket_request, object_request, other_request, request_at, request_of};
 
 use crate::lines::{class_by, hold_by, locked_by, tags_by};
 use crate::location::region_of;
@@ -14,12 +14,13 @@ use crate::problem::Problem;
 use s3r_desk::Request;
 use s3r_http::RawRequest;
 use s3r_json::{status_of, tags_of};
-use s3r_names::{BucketName, Key, TagSet, VersionId};
+use s3r_names::{BucketName, Bytes, ClassName, Key, TagSet, VersionId};
 use s3r_record::fits_record;
 use s3r_routes::{
     Place, Query, Route, bucket_named, key_written, path_of, place_of, route_of, version_of,
 };
 use s3r_rules::Config;
+use s3r_rules_json::read_config;
 use std::alloc::Global;
 
 /// Whether the method is HEAD.
@@ -87,7 +88,7 @@ fn replication_request(
 ) -> Result<Request, Problem>
     ensures { Gives result (replication_request raw.now name) }
 {
-    let config = Config::read(alloc, raw.body.as_slice())?;
+    let config = read_config(alloc, raw.body.as_slice())?;
     if_recorded(alloc, name, config)
 }
 
@@ -115,6 +116,30 @@ fn bucket_asked(
     }
 }
 
+/// What a put writes.
+#[derive(Drop)]
+pub struct Written {
+    pub body: Bytes,
+    pub tags: TagSet,
+    pub hold: bool,
+    pub class: ClassName,
+}
+
+/// What a put's lines and its body say.
+fn written_by(alloc: Global, raw: &RawRequest) -> Result<Written, Problem>
+    ensures { Gives result (written_by raw.now) }
+{
+    let tags = tags_by(alloc, raw)?;
+    let hold = hold_by(raw)?;
+    let class = class_by(alloc, raw)?;
+    Ok(Written {
+        body: raw.body.clone()?,
+        tags,
+        hold,
+        class,
+    })
+}
+
 fn put_request(
     alloc: Global,
     raw: &RawRequest,
@@ -123,13 +148,16 @@ fn put_request(
 ) -> Result<Request, Problem>
     ensures { Gives result (put_request raw.now bucket key) }
 {
-    let tags = tags_by(alloc, raw)?;
-    let hold = hold_by(raw)?;
-    let class = class_by(alloc, raw)?;
+    let Written {
+        body,
+        tags,
+        hold,
+        class,
+    } = written_by(alloc, raw)?;
     Ok(Request::PutObject {
         bucket,
         key,
-        body: raw.body.clone()?,
+        body,
         tags,
         hold,
         class,

@@ -59,9 +59,16 @@ fn make<W: World>(
     ensures goes { W.goes world.old world.new }
     ensures shape { KeepsShape (W.shape world.old) (W.shape world.new) }
 {
-    match commit(alloc, world, stores, region, command)? {
-        Committed::At(index) => Ok(reply_at(region, index, reply)),
-        Committed::Refused(refusal) => Ok(Answer::Refused(refusal)),
+    match commit(alloc, world, stores, region, command) {
+        Ok(Committed::At(index)) => Ok(reply_at(region, index, reply)),
+        Ok(Committed::Refused(refusal)) => {
+            drop(reply);
+            Ok(Answer::Refused(refusal))
+        }
+        Err(fault) => {
+            drop(reply);
+            Err(fault)
+        }
     }
 }
 

@@ -10,7 +10,7 @@ use s3r_world::World;
 use std::alloc::{AllocError, Global};
 
 /// All regions, and what is known of them.
-#[derive(Debug, Drop)]
+#[derive(Drop)]
 pub struct Desk {
     /// A store for each region, in order.
     pub stores: Vec<Store>,
@@ -61,7 +61,12 @@ impl Desk {
         ensures goes { W.goes world.old world.new }
         ensures shape { KeepsShape (W.shape world.old) (W.shape world.new) }
     {
-        touch_all(alloc, world, &mut self.stores)?;
-        answer(alloc, world, &mut self.stores, request)
+        match touch_all(alloc, world, &mut self.stores) {
+            Ok(()) => answer(alloc, world, &mut self.stores, request),
+            Err(fault) => {
+                drop(request);
+                Err(fault)
+            }
+        }
     }
 }

@@ -19,6 +19,3 @@ pub use laws::no_region_is_missing;
 pub use request::{Answer, Request};
 pub use s3r_history::Refusal;
 pub use s3r_versions::{Entries, Listed, Listing, Place};
-
-#[cfg(test)]
-mod tests;

@@ -20,7 +20,7 @@ use s3r_versions::{ListFault, Place, Row};
 use std::alloc::{AllocError, Global};
 
 /// What is to be answered, and what is to be committed before.
-#[derive(Debug, Drop)]
+#[derive(Drop)]
 pub enum Plan {
     /// The answer, and nothing is committed.
     Shows(Answer),
@@ -33,7 +33,7 @@ pub enum Plan {
 }
 
 /// The answer to a commit.
-#[derive(Debug, Drop)]
+#[derive(Drop)]
 pub enum Reply {
     Is(Answer),
     /// The id that the command gives to its version.

@@ -6,7 +6,7 @@ use s3r_versions::{Listing, Place};
 
 /// A request, read and not looked at further. A version that isn't named is the latest of the key. A body has at most
 /// 4,194,304 bytes.
-#[derive(Debug, Drop)]
+#[derive(Drop)]
 pub enum Request {
     /// A new bucket in a region. None stands for a word that is no region's.
     CreateBucket {
@@ -99,7 +99,7 @@ pub enum Request {
 }
 
 /// What a request comes to.
-#[derive(Debug, Drop)]
+#[derive(Drop)]
 pub enum Answer {
     /// It is refused, and nothing was done.
     Refused(Refusal),

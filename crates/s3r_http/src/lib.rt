@@ -15,6 +15,3 @@ pub use laws::{one_cause, one_request, some_text};
 pub use message::{Field, Fields, HttpFault, RawRequest};
 pub use reading::{has_more, read_request};
 pub use response::print_response;
-
-#[cfg(test)]
-mod tests;

@@ -9,6 +9,3 @@ mod writing;
 pub use laws::{front_begins, one_end, one_history, scanning_stands, standing_scans};
 pub use scanning::{ScanFault, Scanned, scan};
 pub use writing::{AppendFault, append, create};
-
-#[cfg(test)]
-mod tests;

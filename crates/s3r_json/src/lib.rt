@@ -12,6 +12,3 @@ pub use fault::BodyFault;
 pub use members::{flag_of, has_only, list_at, only_at, only_text_at, optional_text_at, text_at};
 pub use status::{status_at, status_of, status_text};
 pub use tags::{tag_at, tag_list_at, tag_list_value, tag_value, tags_at, tags_of, tags_text};
-
-#[cfg(test)]
-mod tests;

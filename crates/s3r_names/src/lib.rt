@@ -28,6 +28,3 @@ pub use tag_rule::is_key_below;
 pub use tags::{Tag, TagSet};
 pub use texts::{Bytes, Text};
 pub use version::VersionId;
-
-#[cfg(test)]
-mod tests;

@@ -8,7 +8,7 @@ use Rattle.std.proofs.lemmas.List.Concat.{flat_map-cons}
 use Rattle.s3r_rules.specs.declared.rule.Rule.{Rule}
 use Rattle.s3r_rules.specs.Rules.{is_rule, has_id, has_priority, are_apart, is_config}
 use Rattle.s3r_rules.proofs.Growing.{all-snoc, apart-snoc, Lawful}
-use Rattle.s3r_rules.proofs.Printed.{none_before}
+use Rattle.s3r_rules.proofs.Drafted.{none_before}
 use Rattle.s3r_record.specs.Fields.{rule_bytes, rules_bytes}
 use Rattle.s3r_record.specs.Placing.{agree, IsPlaced, has_texts}
 use Rattle.s3r_record.specs.Reading.{Unread, place, number_at}

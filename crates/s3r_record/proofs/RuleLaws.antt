@@ -19,7 +19,7 @@ use Rattle.s3r_rules.specs.declared.rule.Rule.{Rule}
 use Rattle.s3r_rules.specs.Rules.{is_class, has_id, has_priority}
 use Rattle.s3r_rules.specs.Reading.{id_from, priority_from, prefix_from, tags_from, bucket_from, class_from, unless_wrong, wrong_beside, rule_from}
 use Rattle.s3r_rules.proofs.Growing.{Fits, rule-is, ok-bind, ok-if, at_ok}
-use Rattle.s3r_rules.proofs.Printed.{Facts, facts, class_back, beside_back}
+use Rattle.s3r_rules.proofs.Drafted.{Facts, facts, class_back, beside_back}
 use Rattle.s3r_record.specs.declared.rule_parts.Back.{Back}
 use Rattle.s3r_record.specs.declared.rule_parts.Front.{Front}
 use Rattle.s3r_record.specs.declared.tag_rule.TagRule.TheVariants as allowed

@@ -2,7 +2,7 @@ use s3r_names::{BucketName, Bytes, ClassName, Key, TagSet, VersionId};
 use s3r_rules::Config;
 
 /// What one record of a region's volume says.
-#[derive(Debug, Drop)]
+#[derive(Drop)]
 pub enum Command {
     CreateBucket {
         name: BucketName,

@@ -31,6 +31,3 @@ pub use encoding::{encode, spelling_is_short};
 pub use fault::RecordFault;
 pub use replication_encoding::{fits_record, regions_keep_length};
 pub use rule_texts::are_texts;
-
-#[cfg(test)]
-mod tests;

@@ -11,7 +11,7 @@ use s3r_versions::Rows;
 use std::alloc::{AllocError, Global};
 
 /// A bucket of a region.
-#[derive(Debug, Drop)]
+#[derive(Drop)]
 pub struct Bucket {
     pub name: BucketName,
     /// Whether it has Object Lock.

@@ -10,7 +10,7 @@ use s3r_versions::Row;
 use std::alloc::AllocError;
 
 /// What one command changes of its bucket.
-#[derive(Debug, Drop)]
+#[derive(Drop)]
 pub(crate) enum Change {
     /// A version or a marker is added.
     Add(Row<Bytes>),

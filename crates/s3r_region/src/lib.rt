@@ -10,6 +10,3 @@ mod version;
 pub use bucket::Bucket;
 pub use s3r_history::{Refusal, Replication};
 pub use state::{Deny, State};
-
-#[cfg(test)]
-mod tests;

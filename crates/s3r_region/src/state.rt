@@ -31,7 +31,7 @@ pub enum Deny {
 }
 
 /// What a region keeps.
-#[derive(Debug, Drop)]
+#[derive(Drop)]
 pub struct State {
     region: u8,
     regions: u32,

@@ -18,6 +18,3 @@ pub use rows::{Route, route_of};
 pub use target::{Place, path_of, place_of};
 pub use values::{given, limit_of, version_of};
 pub use words::Word;
-
-#[cfg(test)]
-mod tests;

@@ -13,11 +13,9 @@ use Rattle.s3r_rules.specs.declared.fault.Kind.TheVariants as kind
 use Rattle.s3r_rules.specs.declared.fault.ConfigFault.{ConfigFault}
 use Rattle.s3r_rules.specs.declared.draft.Draft.{Draft}
 use Rattle.s3r_rules.specs.declared.rule.Rule.{Rule}
-use Rattle.s3r_rules.specs.Faults.{◌>>=◌, or_malformed}
+use Rattle.s3r_rules.specs.Faults.{◌>>=◌}
 use Rattle.s3r_rules.specs.Rules.{is_empty, is_class, is_rule, has_id, has_priority, are_apart, is_config}
-use Rattle.s3r_rules.specs.Reading.{wrong, id_text, id_from, priority_from, prefix_from, tags_from, bucket_from, class_from, unless_wrong, rule_beside, rule_from, rules_from, config_from, config_in, config_body}
-use Rattle.s3r_rules.specs.Drafts.{drafts_in}
-use Rattle.s3r_json.specs.Bodies.{body_value}
+use Rattle.s3r_rules.specs.Reading.{wrong, id_text, id_from, priority_from, prefix_from, tags_from, bucket_from, class_from, unless_wrong, rule_beside, rule_from, rules_from, config_from}
 
 pub ok-bind : {A B : Type 0} (P : A → Type 0) (Q : B → Type 0) (r : Result A ConfigFault) (f : A → Result B ConfigFault) → IfOk r P → ((x : A) → P x → IfOk (f x) Q) → IfOk (r >>= f) Q
 ok-bind P Q (Ok x) f h next = next x h
@@ -148,8 +146,8 @@ config_is drafts rules low high e =
     let count = fits_count (length rules) (length drafts) (omega (arith, done.1)) low high in
     rw (count, done.0.0, done.0.1, done.0.2) refl
 
--- so what is read of a body is one
-drafts_lawful : (drafts : List Draft) → IfOk (config_from drafts) (λ rules. is_config rules ≡ true)
+-- so what is read of drafts is one
+pub drafts_lawful : (drafts : List Draft) → IfOk (config_from drafts) (λ rules. is_config rules ≡ true)
 drafts_lawful [] = tt
 drafts_lawful (draft ∷ drafts) = go (nat_lt 1000 (length (draft ∷ drafts))) refl
   where
@@ -160,15 +158,3 @@ drafts_lawful (draft ∷ drafts) = go (nat_lt 1000 (length (draft ∷ drafts))) 
     go : (b : Bool) → nat_lt 1000 (length (draft ∷ drafts)) ≡ b → IfOk (if b then wrong 0 kind.TooManyRules else rules_from [] (draft ∷ drafts)) (λ rules. is_config rules ≡ true)
     go true e = tt
     go false e = some (rules_from [] (draft ∷ drafts)) refl (ltb-false 1000 (length (draft ∷ drafts)) e)
-
-abbrev Any : {X : Type 0} → X → Type 0
-Any x = Unit {0}
-
-any : {X : Type 0} (r : Result X ConfigFault) → IfOk r Any
-any (Ok x) = tt
-any (Err fault) = tt
-
-pub body_lawful : (body : List ℕ) → IfOk (config_body body) (λ rules. is_config rules ≡ true)
-body_lawful body =
-    ok-bind Any (λ rules. is_config rules ≡ true) (or_malformed (body_value body)) config_in (any (or_malformed (body_value body)))
-    (λ value t. ok-bind Any (λ rules. is_config rules ≡ true) (drafts_in value) config_from (any (drafts_in value)) (λ drafts u. drafts_lawful drafts))

@@ -1,6 +1,5 @@
 pub mod Choosing
 pub mod Naming
-pub mod Drafting
 pub mod Growing
-pub mod Printed
+pub mod Drafted
 pub mod OneDecides

@@ -3,8 +3,6 @@ pub mod Rules
 pub mod Choice
 pub mod Writes
 pub mod Destinations
-pub mod Drafts
 pub mod Reading
-pub mod Printing
 pub mod Laws
 pub mod Kinds

@@ -1,22 +1,19 @@
--- What a body is read as.
+-- What rules that are written so are.
 use Rattle.std.specs.Prelude.{ℕ, ◌+◌, ◌&&◌, not, nat_le, nat_lt, if◌then◌else◌, List, [], ◌∷◌, ◌++◌, length, Option, Some, None, Result, Ok, Err, codes, decimal}
 use Rattle.std.specs.List.{list_any}
 use Rattle.std.specs.Str.{chars}
-use Rattle.serde_json.specs.Data.{Data}
 use Rattle.s3r_names.specs.declared.tags.Tag.{Tag}
 use Rattle.s3r_names.specs.Tags.{is_tag_set}
 use Rattle.s3r_names.specs.Bucket.{is_bucket_name}
 use Rattle.s3r_names.specs.Class.{is_class_name}
-use Rattle.s3r_json.specs.Bodies.{body_value}
 use Rattle.s3r_rules.specs.declared.fault.Kind.{Kind}
 use Rattle.s3r_rules.specs.declared.fault.Kind.TheVariants as kind
 use Rattle.s3r_rules.specs.declared.fault.ConfigFault.{ConfigFault}
 use Rattle.s3r_rules.specs.declared.fault.ConfigFault.TheVariants.{InvalidRequest}
 use Rattle.s3r_rules.specs.declared.draft.Draft.{Draft}
 use Rattle.s3r_rules.specs.declared.rule.Rule.{Rule}
-use Rattle.s3r_rules.specs.Faults.{◌>>=◌, or_malformed}
+use Rattle.s3r_rules.specs.Faults.{◌>>=◌}
 use Rattle.s3r_rules.specs.Rules.{is_empty, has_id, has_priority}
-use Rattle.s3r_rules.specs.Drafts.{drafts_in}
 
 abbrev pub wrong : {X : Type 0} → ℕ → Kind → Result X ConfigFault
 wrong n k = Err (InvalidRequest n k)
@@ -83,11 +80,3 @@ rules_from rules (draft ∷ drafts) = rule_from (length rules + 1) rules draft >
 abbrev pub config_from : List Draft → Result (List Rule) ConfigFault
 config_from [] = wrong 0 kind.NoRule
 config_from (draft ∷ drafts) = if nat_lt 1000 (length (draft ∷ drafts)) then wrong 0 kind.TooManyRules else rules_from [] (draft ∷ drafts)
-
--- the configuration of a value: its form, then what is wrong first
-abbrev pub config_in : Data → Result (List Rule) ConfigFault
-config_in value = drafts_in value >>= config_from
-
--- the configuration that a body is
-abbrev pub config_body : List ℕ → Result (List Rule) ConfigFault
-config_body body = or_malformed (body_value body) >>= config_in

@@ -1,24 +1,19 @@
 //! A configuration.
 ghost use Rattle.std.specs.Prelude.{◌≡◌, ◌≤◌, length, []};
-ghost use Rattle.serde_json.specs.View.{view};
-ghost use Rattle.s3r_json.specs.Bodies.{body_value};
-ghost use Rattle.s3r_rules.specs.Faults.{Gives, GivesBy, or_malformed};
+ghost use Rattle.s3r_rules.specs.Faults.{Gives};
 ghost use Rattle.s3r_rules.specs.Reading.{rules_from, config_from};
 
-use crate::draft::{Draft, drafts_in};
+use crate::draft::Draft;
 use crate::fault::{ConfigFault, Kind};
 use crate::lawful::{LIMIT, is_config};
-use crate::printing::config_value;
 use crate::reading::rules_from;
 use crate::rule::Rule;
-use s3r_json::{BodyFault, read_value};
-use serde_json::Value;
 use std::alloc::{AllocError, Global};
 use std::marker::Model;
 
 /// The replication rules of a bucket in their order, seen as their list: 1 to 1,000, no two with one ID, nor with one
 /// priority to the same bucket.
-#[derive(Debug, Drop)]
+#[derive(Drop)]
 pub struct Config {
     rules: Vec<Rule>,
 }
@@ -36,12 +31,10 @@ impl Model for Config {
 }
 
 impl Config {
-    ghost use Rattle.std.specs.Prelude.{◌≡◌, if◌then◌else◌, Some, None, IsTrue, IfOk, Ok, string_bytes};
-    ghost use Rattle.serde_json.specs.Written.{compact_text};
+    ghost use Rattle.std.specs.Prelude.{◌≡◌, if◌then◌else◌, Some, None, IsTrue};
     ghost use Rattle.s3r_rules.specs.Rules.{is_config};
-    ghost use Rattle.s3r_rules.specs.Printing.{config_data};
     ghost use Rattle.s3r_rules.specs.Faults.{Gives};
-    ghost use Rattle.s3r_rules.specs.Reading.{config_body};
+    ghost use Rattle.s3r_rules.specs.Reading.{config_from};
 
     /// The configuration of these rules, if they are one.
     pub fn from_rules(rules: Vec<Rule>) -> Option<Config>
@@ -53,23 +46,12 @@ impl Config {
         Some(Config { rules })
     }
 
-    /// The configuration that a body is. MalformedJson where it isn't of a configuration's form, else InvalidRequest with
-    /// the first rule that is wrong, and what is wrong of it first.
-    pub fn read(alloc: Global, body: &[u8]) -> Result<Config, ConfigFault>
-        ensures { Gives result (config_body body.now) }
+    /// The configuration of rules that are written so. InvalidRequest with the first rule that is wrong, and what is wrong
+    /// of it first; rule 0 where there is no rule, or more than 1,000.
+    pub fn from_drafts(alloc: Global, drafts: &[Draft]) -> Result<Config, ConfigFault>
+        ensures { Gives result (config_from drafts.now) }
     {
-        let value = value_of(alloc, body)?;
-        let drafts = drafts_in(alloc, &value)?;
-        config_from(alloc, &drafts)
-    }
-
-    /// Its text, in which each rule has its members by name: the shortest filter, and `SourceSelectionCriteria` only where
-    /// changes of replicas are copied.
-    pub fn print(&self, alloc: Global) -> Result<String, AllocError>
-        ensures text { IfOk result (λ text. string_bytes text ≡ compact_text (config_data self.now)) }
-        ensures reads { IfOk result (λ text. config_body (string_bytes text) ≡ Ok self.now) }
-    {
-        config_value(alloc, self.as_slice())?.to_string(alloc)
+        config_from(alloc, drafts)
     }
 
     pub fn as_slice(&self) -> &[Rule]
@@ -77,16 +59,6 @@ impl Config {
         ensures lawful { IsTrue (is_config self.now) }
     {
         self.rules.as_slice()
-    }
-}
-
-fn value_of(alloc: Global, body: &[u8]) -> Result<Value, ConfigFault>
-    ensures { GivesBy view result (or_malformed (body_value body.now)) }
-{
-    match read_value(alloc, body) {
-        Ok(value) => Ok(value),
-        Err(BodyFault::OutOfMemory) => Err(ConfigFault::OutOfMemory),
-        Err(_) => Err(ConfigFault::MalformedJson),
     }
 }
 

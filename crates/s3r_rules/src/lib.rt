@@ -1,4 +1,4 @@
-//! Replication rules: a bucket's configuration read, printed and chosen from.
+//! Replication rules: a bucket's configuration made of rules as they are written, and chosen from.
 #![tactic(auto)]
 
 mod buckets;
@@ -8,7 +8,6 @@ mod draft;
 mod fault;
 mod lawful;
 mod laws;
-mod printing;
 mod reading;
 mod rule;
 
@@ -20,6 +19,3 @@ pub use fault::{ConfigFault, Kind};
 pub use laws::one_rule_decides;
 pub use reading::rule_from;
 pub use rule::Rule;
-
-#[cfg(test)]
-mod tests;

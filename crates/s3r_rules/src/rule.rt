@@ -8,7 +8,7 @@ use s3r_names::{BucketName, ClassName, TagSet, Text};
 use std::alloc::AllocError;
 
 /// What of a bucket is copied, and where to.
-#[derive(Debug, Drop)]
+#[derive(Drop)]
 pub struct Rule {
     /// Up to 255 characters, and no other rule's.
     pub id: Text,

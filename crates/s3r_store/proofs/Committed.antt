@@ -15,7 +15,7 @@ use Rattle.s3r_journal.specs.declared.writing.AppendFault.{AppendFault}
 use Rattle.s3r_journal.specs.declared.writing.AppendFault.TheVariants as append
 use Rattle.s3r_store.specs.declared.held.Held.{Held}
 use Rattle.s3r_store.specs.Faults.{fault_of_append}
-use Rattle.s3r_store.specs.Commits.{IsEither, IsWith, Commits, HasCommitted, length_with}
+use Rattle.s3r_store.specs.Commits.{IsEither, IsWith, Commits, HasWritten, length_with}
 
 -- bytes that stand for these spellings up to this end, or are empty
 abbrev pub AtEnd : ℕ → Option ℕ → List (List ℕ) → List ℕ → Type 0
@@ -101,15 +101,15 @@ pub length_is : (v : ℕ) (end : Option ℕ) (h : History) (c : Command) (w : Ou
 length_is v end h c w bytes at is = omega (arith, end_is v end (spelled h) w at, ap length is)
 
 -- a frame that wasn't written
-pub commit_failed : (n v : ℕ) (h : History) (c : Command) (room : ℕ) (a b : Held) (old new : Outside) (e : AppendFault) (full : Type 0)
+pub commit_failed : (n v : ℕ) (h : History) (c : Command) (room : ℕ) (old new : Outside) (e : AppendFault) (full : Type 0)
     → refusal n v h c ≡ None
     → (e ≡ append.VolumeFull v) ⊎ ((e ≡ append.Volume v) × full)
     → (e ≡ append.VolumeFull v → room < length_with v h c)
     → (e ≡ append.Volume v → length_with v h c ≤ room)
     → Commits n v h c false old new
-    → HasCommitted n v h c (Err (fault_of_append e)) room a b old new
-commit_failed n v h c room a b old new (append.Volume u) full accepted why passes fits did = (accepted, fits (⊎_elim (λ is. absurd cc) (λ is. is.0) why), did)
-commit_failed n v h c room a b old new (append.VolumeFull u) full accepted why passes fits did = (accepted, passes (⊎_elim (λ is. is) (λ is. let no : append.VolumeFull u ≡ append.Volume v = is.0 in absurd cc) why))
+    → HasWritten n v h c (Err (fault_of_append e)) room old new
+commit_failed n v h c room old new (append.Volume u) full accepted why passes fits did = (accepted, fits (⊎_elim (λ is. absurd cc) (λ is. is.0) why), did)
+commit_failed n v h c room old new (append.VolumeFull u) full accepted why passes fits did = (accepted, passes (⊎_elim (λ is. is) (λ is. let no : append.VolumeFull u ≡ append.Volume v = is.0 in absurd cc) why))
 
 -- what a store knows of its volume's bytes
 pub stands_for : (n v : ℕ) (held : Held) (h : History) (w : Outside) → Knows n v held h w → StandsFor n v h (w.as_read.volume v)

@@ -11,7 +11,7 @@ use Rattle.s3r_store.specs.declared.fault.StoreFault.{StoreFault}
 use Rattle.s3r_store.specs.declared.fault.StoreFault.TheVariants as faults
 use Rattle.s3r_store.specs.declared.held.Held.{Held}
 use Rattle.s3r_store.specs.Stands.{spelled, StandsFor}
-use Rattle.s3r_store.specs.Knows.{Knows}
+use Rattle.s3r_store.specs.Knows.{Knows, IsAtEnd}
 
 -- the volume stands for the history, or for it with the command
 abbrev pub IsEither : (n v : ℕ) → History → Command → List ℕ → List ℕ → Type 0
@@ -36,15 +36,21 @@ pub record Commits (n v : ℕ) (h : History) (c : Command) (ok : Bool) (old new 
 abbrev pub length_with : ℕ → History → Command → ℕ
 length_with v h c = length (header v 1 ++ records (spelled h)) + 1 + length (frame (spelling c))
 
+-- what came of putting a command's record on the volume
+abbrev pub HasWritten : (n v : ℕ) → History → Command → Result ℕ StoreFault → ℕ → Outside → Outside → Type 0
+HasWritten n v h c (Ok end) room old new =
+    (refusal n v h c ≡ None) × (length_with v h c ≤ room) × IsAtEnd v (Some end) (spelled (c ∷ h)) new × Commits n v h c true old new
+HasWritten n v h c (Err (faults.Refused f)) room old new = refusal n v h c ≡ Some f
+HasWritten n v h c (Err (faults.Full u)) room old new = (refusal n v h c ≡ None) × (room < length_with v h c)
+HasWritten n v h c (Err (faults.Volume u)) room old new = (refusal n v h c ≡ None) × (length_with v h c ≤ room) × Commits n v h c false old new
+HasWritten n v h c (Err (faults.Damaged u offset)) room old new = ⊥
+HasWritten n v h c (Err faults.OutOfMemory) room old new = (refusal n v h c ≡ None) × Commits n v h c false old new
+
 -- what is held after a commit, and what came of it
 abbrev pub HasCommitted : (n v : ℕ) → History → Command → Result ℕ StoreFault → ℕ → Held → Held → Outside → Outside → Type 0
 HasCommitted n v h c (Ok index) room a b old new =
     (index ≡ length h + 1) × (refusal n v h c ≡ None) × (length_with v h c ≤ room) × Knows n v b (c ∷ h) new × Commits n v h c true old new
-HasCommitted n v h c (Err (faults.Refused f)) room a b old new = refusal n v h c ≡ Some f
-HasCommitted n v h c (Err (faults.Full u)) room a b old new = (refusal n v h c ≡ None) × (room < length_with v h c)
-HasCommitted n v h c (Err (faults.Volume u)) room a b old new = (refusal n v h c ≡ None) × (length_with v h c ≤ room) × Commits n v h c false old new
-HasCommitted n v h c (Err (faults.Damaged u offset)) room a b old new = ⊥
-HasCommitted n v h c (Err faults.OutOfMemory) room a b old new = (refusal n v h c ≡ None) × Commits n v h c false old new
+HasCommitted n v h c (Err fault) room a b old new = HasWritten n v h c (Err fault) room old new
 
 -- a volume's fault was counted, and is told of that volume
 abbrev pub IsCause : {A : Type 0} → ℕ → Result A StoreFault → Counts → Counts → Type 0

@@ -12,6 +12,3 @@ pub use fault::StoreFault;
 pub use held::Held;
 pub use laws::one_lawful_history;
 pub use store::Store;
-
-#[cfg(test)]
-mod tests;

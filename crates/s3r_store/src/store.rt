@@ -11,7 +11,7 @@ use s3r_world::World;
 use std::alloc::Global;
 
 /// A region over its volume, which is read at the first touch and kept in step with it by each commit.
-#[derive(Debug, Drop)]
+#[derive(Drop)]
 pub struct Store {
     /// The number of the region and of its volume.
     pub v: u32,

@@ -14,6 +14,3 @@ pub use laws::{
 pub use listing::{Entries, ListFault, Listed, Listing, Place};
 pub use row::{Origin, Row};
 pub use rows::Rows;
-
-#[cfg(test)]
-mod tests;

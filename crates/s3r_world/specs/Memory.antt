@@ -4,6 +4,7 @@ use Rattle.std.specs.declared.alloc.Global.{Global}
 use Rattle.s3r_world.specs.declared.disk.Event.{Event}
 use Rattle.s3r_world.specs.declared.plan.Plan.{Plan}
 use Rattle.s3r_world.specs.declared.plan.Side.{Side}
+use Rattle.s3r_world.specs.declared.plan.Side.TheVariants as side
 use Rattle.s3r_world.specs.declared.memory.MemoryWorld.{MemoryWorld}
 use Rattle.s3r_world.specs.Image.{Image, OnVolume, Reached, Follows}
 use Rattle.s3r_world.specs.Outside.{Shape, KeepsShape, Counts, Outside, Elapses, KeepsInput, Rises}
@@ -33,6 +34,13 @@ shape_of w = record { volumes = vec_len w.disk.volumes; room = λ _. w.room }
 -- how often each side has failed
 abbrev pub faults_of : MemoryWorld → Counts
 faults_of w = record { volume = λ v. slice_index w.counts.volumes.items v; input = w.counts.input; output = w.counts.output; door = w.counts.door }
+
+-- how often one side has failed
+abbrev pub count_of : Side → Counts → ℕ
+count_of (side.Volume v) counts = counts.volume v
+count_of side.Input counts = counts.input
+count_of side.Output counts = counts.output
+count_of side.Door counts = counts.door
 
 -- which of its calls are to fail, and how many there were
 abbrev pub plan_of : MemoryWorld → Plan

@@ -30,7 +30,24 @@ pub fn count_one(count: &mut u64)
     *count = count.saturating_add(1);
 }
 
+// One of these, 0 where there is none with this number.
+fn one_of(counts: &[u64], v: u32) -> u64
+    ensures { result ≡ slice_index counts.now v }
+{
+    match counts.get(v as usize) {
+        Some(count) => *count,
+        None => 0,
+    }
+}
+
 impl Counters {
+    /// How often a volume has failed, 0 where there is none with this number.
+    pub fn of_volume(&self, v: u32) -> u64
+        ensures { result ≡ slice_index self.now.volumes.items v }
+    {
+        one_of(&self.volumes, v)
+    }
+
     /// Counts a failure of a volume, and gives the fault to answer.
     pub fn volume_failed(&mut self, v: u32) -> VolumeFault
         requires { v < vec_len self.old.volumes }

@@ -10,8 +10,6 @@ mod memory;
 mod plan;
 mod real;
 mod replay;
-#[cfg(test)]
-mod tests;
 mod world;
 
 pub use disk::Event;

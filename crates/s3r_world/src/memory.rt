@@ -274,7 +274,7 @@ impl MemoryWorld {
     ghost use Rattle.s3r_world.specs.Image.{Image};
     ghost use Rattle.s3r_world.specs.Events.{picked};
     ghost use Rattle.s3r_world.specs.Planned.{with_next, with_stop, with_one};
-    ghost use Rattle.s3r_world.specs.Memory.{shape_of, outside_of, story_of, input_of, connections_of, plan_of, calls_of, starved_of, piece_of, IsNew, HoldsOnly, KeepsRest, Places, with_plan};
+    ghost use Rattle.s3r_world.specs.Memory.{shape_of, outside_of, story_of, input_of, connections_of, plan_of, faults_of, count_of, calls_of, starved_of, piece_of, IsNew, HoldsOnly, KeepsRest, Places, with_plan};
 
     // A world in which nothing has happened yet.
     fn over(
@@ -414,6 +414,18 @@ impl MemoryWorld {
         ensures { result ≡ starved_of self.now }
     {
         self.starved
+    }
+
+    /// How often a side has failed since the world was made, 0 for a volume that there isn't. It stays at 2^64 - 1.
+    pub fn fault_count(&self, side: Side) -> u64
+        ensures { result ≡ count_of side (faults_of self.now) }
+    {
+        match side {
+            Side::Volume(v) => self.counts.of_volume(v),
+            Side::Input => self.counts.input,
+            Side::Output => self.counts.output,
+            Side::Door => self.counts.door,
+        }
     }
 
     /// A world that holds one of the images of this one, all of it stable: its volumes and the output so far. It has

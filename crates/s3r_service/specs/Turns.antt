@@ -1,0 +1,95 @@
+-- Requests, and what each came to.
+use Rattle.std.specs.Prelude.{◌≡◌, ℕ, ◌+◌, ◌==◌, false, List, [], ◌∷◌, ◌++◌, Option, Some, None, Result, Ok, Err, if◌then◌else◌}
+use Rattle.s3r_world.specs.Image.{Image}
+use Rattle.s3r_store.specs.Stands.{StandsFor}
+use Rattle.s3r_desk.specs.declared.fault.DeskFault.{DeskFault}
+use Rattle.s3r_desk.specs.declared.fault.DeskFault.TheVariants as faults
+use Rattle.s3r_desk.specs.declared.request.Request.{Request}
+use Rattle.s3r_desk.specs.declared.request.Answer.{Answer}
+use Rattle.s3r_desk.specs.Events.{Events, answered}
+use Rattle.s3r_desk.specs.Responds.{IsTurn, IsDamage}
+use Rattle.s3r_http.specs.declared.message.RawRequest.{RawRequest}
+use Rattle.s3r_http.specs.Request.{SpellsRequest}
+use Rattle.s3r_api.specs.declared.problem.Problem.{Problem}
+use Rattle.s3r_api.specs.Problems.{Fails}
+use Rattle.s3r_api.specs.Request.{request_of, is_head}
+use Rattle.s3r_api.specs.Texts.{answer_text, problem_text}
+use Rattle.s3r_service.specs.Passing.{Brings}
+
+-- what the desk said, or why it wasn't asked
+abbrev pub Outcome : Type 0
+Outcome = Result (Result Answer DeskFault) Problem
+
+-- A request and its text, its outcome, what happened to the regions, and what was put out of its answer.
+pub record Turn : Type 0 where
+  pub raw : RawRequest
+  pub text : List ℕ
+  pub outcome : Outcome
+  pub step : Events
+  pub sent : List ℕ
+
+abbrev pub answer_to : RawRequest → Outcome → List ℕ
+answer_to raw (Ok result) = answer_text result (is_head raw) raw.last
+answer_to raw (Err problem) = problem_text problem (is_head raw) raw.last
+
+-- The request asks for this, and the desk made its step, with the volumes as they are seen; or it asks for nothing.
+abbrev pub IsStepOf : ℕ → (ℕ → ℕ) → Events → Image → Result Request Problem → Outcome → Events → Type 0
+IsStepOf n room before seen asked (Ok result) step =
+    (request : Request) × (asked ≡ Ok request) × IsTurn (λ r h. StandsFor n r h (seen.volume r)) n room before request result step × IsDamage n seen result
+IsStepOf n room before seen asked (Err problem) step = Fails problem asked × (step ≡ [])
+
+-- The turn is that of its request, behind these events.
+pub record IsAnswered (n : ℕ) (room : ℕ → ℕ) (before : Events) (seen : Image) (t : Turn) : Type 0 where
+  pub spells : SpellsRequest t.raw t.text
+  pub step : IsStepOf n room before seen (request_of t.raw) t.outcome t.step
+  pub more : List ℕ
+  pub front : answer_to t.raw t.outcome ≡ t.sent ++ more
+
+-- So it is, the volumes being what the events have brought since the start.
+pub record IsRight (n : ℕ) (room : ℕ → ℕ) (start : Image) (before : Events) (t : Turn) : Type 0 where
+  pub seen : Image
+  pub since : Brings n before start seen
+  pub answered : IsAnswered n room before seen t
+
+-- the whole answer is out, and another request may follow
+abbrev pub GoesOn : Turn → Type 0
+GoesOn t = (t.sent ≡ answer_to t.raw t.outcome) × (t.raw.last ≡ false)
+
+-- ---- turns, the newest first
+
+abbrev pub events_of : List Turn → Events
+events_of [] = []
+events_of (t ∷ earlier) = answered t.sent ∷ (t.step ++ events_of earlier)
+
+abbrev pub input_of : List Turn → List ℕ
+input_of [] = []
+input_of (t ∷ earlier) = input_of earlier ++ t.text
+
+-- each is right, and goes on
+abbrev pub AreTurns : ℕ → (ℕ → ℕ) → Image → List Turn → Type 0
+AreTurns n room start [] = Unit {0}
+AreTurns n room start (t ∷ earlier) = IsRight n room start (events_of earlier) t × GoesOn t × AreTurns n room start earlier
+
+-- the outcome is a fault of this volume
+abbrev pub fails_at : ℕ → Outcome → ℕ
+fails_at v (Ok (Err (faults.Volume u))) = if u == v then 1 else 0
+fails_at v outcome = 0
+
+-- how many of them are
+abbrev pub failures : ℕ → List Turn → ℕ
+failures v [] = 0
+failures v (t ∷ earlier) = failures v earlier + fails_at v t.outcome
+
+-- ---- one turn or none
+
+abbrev pub events_in : Option Turn → Events
+events_in None = []
+events_in (Some t) = answered t.sent ∷ t.step
+
+abbrev pub text_in : Option Turn → List ℕ
+text_in None = []
+text_in (Some t) = t.text
+
+abbrev pub failures_in : ℕ → Option Turn → ℕ
+failures_in v None = 0
+failures_in v (Some t) = fails_at v t.outcome
