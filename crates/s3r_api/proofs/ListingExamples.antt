@@ -1,5 +1,5 @@
 -- The texts of some listings.
-use Rattle.std.proofs.Common.{◌≡◌, ℕ, Bool, true, false, List, [], ◌∷◌, codes, refl}
+use Rattle.std.proofs.Common.{◌≡◌, ℕ, Bool, true, false, List, [], ◌∷◌, ◌++◌, codes, refl}
 use Rattle.std.specs.Fmt.{digits}
 use Rattle.serde_json.specs.Written.{compact_text}
 use Rattle.serde_json.proofs.OnLiterals.{serde_json_on_literals}
@@ -26,7 +26,8 @@ abbrev put_and_removed : Listing
 put_and_removed = page (entry (codes "a") 0 3 true true 0 ∷ entry (codes "a") 0 2 false false 2 ∷ []) false
 
 removed : compact_text (listing_data put_and_removed)
-    ≡ codes "{\"DeleteMarkers\":[{\"IsLatest\":true,\"Key\":\"a\",\"VersionId\":\"0-0000000000000003\"}],\"IsTruncated\":false,\"Versions\":[{\"IsLatest\":false,\"Key\":\"a\",\"Size\":2,\"StorageClass\":\"STANDARD\",\"VersionId\":\"0-0000000000000002\"}]}"
+    ≡ codes "{\"DeleteMarkers\":[{\"IsLatest\":true,\"Key\":\"a\",\"VersionId\":\"0-0000000000000003\"}],\"IsTruncated\":false,"
+    ++ codes "\"Versions\":[{\"IsLatest\":false,\"Key\":\"a\",\"Size\":2,\"StorageClass\":\"STANDARD\",\"VersionId\":\"0-0000000000000002\"}]}"
 unfolding digits hex_digits serde_json_on_literals
 removed = refl
 
@@ -34,11 +35,14 @@ abbrev first_two : Listing
 first_two = page (entry (codes "a") 0 2 true false 10 ∷ entry (codes "b\"c") 7 255 true true 0 ∷ []) true
 
 cut : compact_text (listing_data first_two)
-    ≡ codes "{\"DeleteMarkers\":[{\"IsLatest\":true,\"Key\":\"b\\\"c\",\"VersionId\":\"7-00000000000000ff\"}],\"IsTruncated\":true,\"NextKeyMarker\":\"b\\\"c\",\"NextVersionIdMarker\":\"7-00000000000000ff\",\"Versions\":[{\"IsLatest\":true,\"Key\":\"a\",\"Size\":10,\"StorageClass\":\"STANDARD\",\"VersionId\":\"0-0000000000000002\"}]}"
+    ≡ codes "{\"DeleteMarkers\":[{\"IsLatest\":true,\"Key\":\"b\\\"c\",\"VersionId\":\"7-00000000000000ff\"}],\"IsTruncated\":true,"
+    ++ codes "\"NextKeyMarker\":\"b\\\"c\",\"NextVersionIdMarker\":\"7-00000000000000ff\","
+    ++ codes "\"Versions\":[{\"IsLatest\":true,\"Key\":\"a\",\"Size\":10,\"StorageClass\":\"STANDARD\",\"VersionId\":\"0-0000000000000002\"}]}"
 unfolding digits hex_digits serde_json_on_literals
 cut = refl
 
-none : compact_text (listing_data (page [] false)) ≡ codes "{\"DeleteMarkers\":[],\"IsTruncated\":false,\"Versions\":[]}"
+none : compact_text (listing_data (page [] false)) ≡ codes "{\"DeleteMarkers\":[],\"IsTruncated\":false,"
+    ++ codes "\"Versions\":[]}"
 unfolding serde_json_on_literals
 none = refl
 

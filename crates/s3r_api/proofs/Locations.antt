@@ -42,7 +42,8 @@ of_members (member name d no_members) text n h = of_one _ name text d refl h
 of_members (member name d (member other e ms)) text n h = absurd (omega (arith, n))
 
 -- where there is one member, the text at the key is what the value says
-pub one_text : (d : Data) (text : List ℕ) → option_map members_len (as_object d) ≡ Some 1 → option_and_then as_str (get key d) ≡ Some text → location_in d ≡ Some text
+pub one_text : (d : Data) (text : List ℕ) → option_map members_len (as_object d) ≡ Some 1 → option_and_then as_str (get key d) ≡ Some text
+    → location_in d ≡ Some text
 one_text null text n h = cc
 one_text (boolean b) text n h = cc
 one_text (number m) text n h = cc
@@ -50,7 +51,8 @@ one_text (string s) text n h = cc
 one_text (array ds) text n h = cc
 one_text (object ms) text n h = let one : members_len ms ≡ 1 = cc in of_members ms text one h
 
-unread : (body : List ℕ) (utf8 : Bool) → is_utf8 body ≡ utf8 → (IsUtf8 body → read body ≡ None) → (if utf8 then region_of_value (read body) else Err MalformedJson) ≡ Err MalformedJson
+unread : (body : List ℕ) (utf8 : Bool) → is_utf8 body ≡ utf8 → (IsUtf8 body → read body ≡ None)
+    → (if utf8 then region_of_value (read body) else Err MalformedJson) ≡ Err MalformedJson
 unread body true is h = ap region_of_value (h (IsUtf8-from_is_utf8 body is))
 unread body false is h = refl
 

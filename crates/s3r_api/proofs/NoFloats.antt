@@ -22,4 +22,8 @@ next (Some entry) others = refl
 pub no_float : (listing : Listing) → has_float (listing_data listing) ≡ false
 no_float listing =
     let shown = member (codes "Versions") (versions_data listing.entries) no_members in
-    rw (markers (filter (λ entry. entry.marker) listing.entries), next (cut_after listing) shown, versions (filter (λ entry. not entry.marker) listing.entries)) refl
+    rw (
+      markers (filter (λ entry. entry.marker) listing.entries),
+      next (cut_after listing) shown,
+      versions (filter (λ entry. not entry.marker) listing.entries),
+    ) refl

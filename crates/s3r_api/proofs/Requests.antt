@@ -30,7 +30,7 @@ use Rattle.s3r_routes.specs.declared.fault.RouteFault.{RouteFault}
 use Rattle.s3r_routes.specs.declared.fault.RouteFault.TheVariants as fault
 use Rattle.s3r_routes.specs.declared.rows.Route.{Route}
 use Rattle.s3r_routes.specs.declared.rows.Route.TheVariants as route
-use Rattle.s3r_routes.specs.Target.{Place, bucket, object}
+use Rattle.s3r_routes.specs.Target.{Target, bucket, object}
 use Rattle.s3r_routes.specs.Query as query
 use Rattle.s3r_routes.specs.Query.{Pair}
 use Rattle.s3r_routes.specs.declared.words.Word.TheVariants as word
@@ -46,7 +46,7 @@ use Rattle.s3r_api.specs.declared.request.Written.{Written}
 use Rattle.s3r_api.specs.declared.problem.Problem.{Problem}
 use Rattle.s3r_api.specs.declared.problem.Problem.TheVariants as problem
 use Rattle.s3r_api.specs.Problems.{Gives, IsOfRequest}
-use Rattle.s3r_api.specs.Faults.{of_route, of_body, of_config, routed, from_body, from_config}
+use Rattle.s3r_api.specs.Faults.{of_route, of_body, routed, from_body, from_config}
 use Rattle.s3r_api.specs.Location.{location_in, region_of_text, region_of_value, region_of}
 use Rattle.s3r_api.specs.Lines.{first_line, lock_word, locked_by, tags_in, tags_by, hold_word, hold_by, class_in, class_by}
 use Rattle.s3r_api.specs.Request.{◌>>=◌, asked_at, limit_asked, id_behind, place_behind, list_request, if_recorded, replication_request, bucket_asked, written_by, put_request, version_asked, is_put, object_asked, bucket_request, object_request, other_request, request_at}
@@ -56,7 +56,8 @@ abbrev pub Told : {X : Type 0} → (X → Type 0) → Result X Problem → Type 
 Told P (Ok x) = P x
 Told P (Err p) = IsOfRequest p
 
-told-bind : {A B : Type 0} (P : A → Type 0) (Q : B → Type 0) (r : Result A Problem) (f : A → Result B Problem) → Told P r → ((x : A) → P x → Told Q (f x)) → Told Q (r >>= f)
+told-bind : {A B : Type 0} (P : A → Type 0) (Q : B → Type 0) (r : Result A Problem) (f : A → Result B Problem) → Told P r → ((x : A) → P x → Told Q (f x))
+    → Told Q (r >>= f)
 told-bind P Q (Ok x) f h next = next x h
 told-bind P Q (Err p) f h next = h
 
@@ -111,7 +112,8 @@ short-is : (key : List ℕ) (b : Bool) → is_key key ≡ b → IfOk {T = List �
 short-is key true is = is
 short-is key false is = tt
 
-key-is : (key : List ℕ) (b : Bool) → IfOk {T = List ℕ} {E = RouteFault} (if b then Err fault.KeyTooLong else (if is_key key then Ok key else Err fault.InvalidKey)) Keyed
+key-is : (key : List ℕ) (b : Bool) → IfOk {T = List ℕ} {E = RouteFault}
+    (if b then Err fault.KeyTooLong else (if is_key key then Ok key else Err fault.InvalidKey)) Keyed
 key-is key true = tt
 key-is key false = short-is key _ refl
 
@@ -157,7 +159,8 @@ told-status on off body = told-from_body Any (status_body on off body) (any-body
 abbrev Set : List Tag → Type 0
 Set tags = is_tag_set tags ≡ true
 
-set-is : (tags : List Tag) (b : Bool) → is_tag_list tags ≡ b → IfOk {T = List Tag} {E = BodyFault} (if b then Ok (in_key_order tags) else Err body.InvalidTag) Set
+set-is : (tags : List Tag) (b : Bool) → is_tag_list tags ≡ b → IfOk {T = List Tag} {E = BodyFault}
+    (if b then Ok (in_key_order tags) else Err body.InvalidTag) Set
 set-is tags true is = in_key_order-set tags ∙ is
 set-is tags false is = tt
 
@@ -221,7 +224,8 @@ told-create raw words name named =
     (λ locked any. told-bind Any (Fits raw) (region_of raw.body) _ (told-region raw.body) (λ region any short. named))
 
 told-versioning : (raw : RawRequest) (words : List Pair) (name : List ℕ) → Named name → Told (Fits raw) (bucket_asked raw words name route.PutVersioning)
-told-versioning raw words name named = told-bind Any (Fits raw) (from_body (status_body (codes "Enabled") (codes "Suspended") raw.body)) _ (told-status _ _ raw.body) (λ enabled any short. named)
+told-versioning raw words name named = told-bind Any (Fits raw) (from_body (status_body (codes "Enabled") (codes "Suspended") raw.body)) _
+    (told-status _ _ raw.body) (λ enabled any short. named)
 
 -- a body's configuration is one
 abbrev Lawful : List Rule → Type 0
@@ -242,7 +246,8 @@ told-recorded raw name rules named lawful = go (fits_record name rules) refl
 
 told-replication : (raw : RawRequest) (name : List ℕ) → Named name → Told (Fits raw) (replication_request raw name)
 told-replication raw name named =
-    told-bind Lawful (Fits raw) (from_config (config_body raw.body)) _ (told-config (config_body raw.body) (body_lawful raw.body)) (λ rules lawful. told-recorded raw name rules named lawful)
+    told-bind Lawful (Fits raw) (from_config (config_body raw.body)) _ (told-config (config_body raw.body) (body_lawful raw.body))
+    (λ rules lawful. told-recorded raw name rules named lawful)
 
 abbrev Least : ℕ → Type 0
 Least limit = 1 ≤ limit
@@ -260,12 +265,14 @@ told-id (Some text) = told-bind Any Any (routed (version_named text)) _ (told-ro
 
 told-place : (key id : Option (List ℕ)) → Told Any (place_behind key id)
 told-place None id = tt
-told-place (Some key) id = told-bind Keyed Any (routed (key_named key)) _ (told-key key) (λ k keyed. told-bind Any Any (id_behind id) _ (told-id id) (λ version any. tt))
+told-place (Some key) id = told-bind Keyed Any (routed (key_named key)) _ (told-key key)
+    (λ k keyed. told-bind Any Any (id_behind id) _ (told-id id) (λ version any. tt))
 
 told-list : (raw : RawRequest) (words : List Pair) (name : List ℕ) → Told (Fits raw) (list_request words name)
 told-list raw words name =
     told-bind Least (Fits raw) (limit_asked words) _ (told-limit words)
-    (λ limit least. told-bind Any (Fits raw) (place_behind (given word.KeyMarker words) (given word.VersionIdMarker words)) _ (told-place (given word.KeyMarker words) (given word.VersionIdMarker words)) (λ after any short. least))
+    (λ limit least. told-bind Any (Fits raw) (place_behind (given word.KeyMarker words) (given word.VersionIdMarker words)) _
+    (told-place (given word.KeyMarker words) (given word.VersionIdMarker words)) (λ after any short. least))
 
 told-bucket_asked : (raw : RawRequest) (words : List Pair) (name : List ℕ) (r : Route) → Named name → Told (Fits raw) (bucket_asked raw words name r)
 told-bucket_asked raw words name route.CreateBucket named = told-create raw words name named
@@ -279,16 +286,18 @@ told-bucket_asked raw words name route.DeleteReplication named = λ short. named
 told-bucket_asked raw words name route.ListVersions named = told-list raw words name
 told-bucket_asked raw words name other named = tt
 
-told-asked : (raw : RawRequest) (place : Place) → Told Any (asked_at raw place)
+told-asked : (raw : RawRequest) (place : Target) → Told Any (asked_at raw place)
 told-asked raw place =
     told-bind Any Any (routed (query.read raw.target)) _ (told-routed Any (query.read raw.target) (any-route _))
-    (λ words any. told-bind Any Any (routed (route_of place raw.method words)) _ (told-routed Any (route_of place raw.method words) (any-route _)) (λ r any. tt))
+    (λ words any. told-bind Any Any (routed (route_of place raw.method words)) _ (told-routed Any (route_of place raw.method words) (any-route _))
+    (λ r any. tt))
 
 told-bucket : (raw : RawRequest) (bytes : List ℕ) → Told (Fits raw) (bucket_request raw bytes)
 unfolding bucket_request
 told-bucket raw bytes =
     told-bind Named (Fits raw) (routed (bucket_named bytes)) _ (told-name bytes)
-    (λ name named. told-bind Any (Fits raw) (asked_at raw (bucket bytes)) _ (told-asked raw (bucket bytes)) (λ asked any. told-bucket_asked raw asked.words name asked.route named))
+    (λ name named. told-bind Any (Fits raw) (asked_at raw (bucket bytes)) _ (told-asked raw (bucket bytes))
+    (λ asked any. told-bucket_asked raw asked.words name asked.route named))
 
 -- ---- an object's requests
 
@@ -299,7 +308,8 @@ told-written : (raw : RawRequest) → Told (IsWritten raw) (written_by raw)
 told-written raw =
     told-bind Set (IsWritten raw) (tags_by raw) _ (told-tags (first_line (codes "x-amz-tagging") raw))
     (λ tags set. told-bind Any (IsWritten raw) (hold_by raw) _ (told-hold (first_line (codes "x-amz-object-lock-legal-hold") raw))
-    (λ hold any. told-bind Classed (IsWritten raw) (class_by raw) _ (told-class (first_line (codes "x-amz-storage-class") raw)) (λ class classed. (set, classed, refl))))
+    (λ hold any. told-bind Classed (IsWritten raw) (class_by raw) _ (told-class (first_line (codes "x-amz-storage-class") raw))
+    (λ class classed. (set, classed, refl))))
 
 told-put : (raw : RawRequest) (name key : List ℕ) → Named name → Keyed key → Told (Fits raw) (put_request raw name key)
 told-put raw name key named keyed =
@@ -320,12 +330,14 @@ told-version_asked raw name key version route.PutHold named keyed is =
 told-version_asked raw name key version route.GetHold named keyed is = λ short. tt
 told-version_asked raw name key version other named keyed is = tt
 
-told-object_asked : (raw : RawRequest) (words : List Pair) (name key : List ℕ) (r : Route) → Named name → Keyed key → Told (Fits raw) (object_asked raw words name key r)
+told-object_asked : (raw : RawRequest) (words : List Pair) (name key : List ℕ) (r : Route) → Named name → Keyed key
+    → Told (Fits raw) (object_asked raw words name key r)
 told-object_asked raw words name key r named keyed = go (is_put r)
   where
     go : (b : Bool) → Told (Fits raw) (if b then put_request raw name key else (routed (version_of words) >>= λ version. version_asked raw name key version r))
     go true = told-put raw name key named keyed
-    go false = told-bind IsNamed (Fits raw) (routed (version_of words)) _ (told-version words) (λ version is. told-version_asked raw name key version r named keyed is)
+    go false = told-bind IsNamed (Fits raw) (routed (version_of words)) _ (told-version words)
+        (λ version is. told-version_asked raw name key version r named keyed is)
 
 told-object : (raw : RawRequest) (bytes written : List ℕ) → Told (Fits raw) (object_request raw bytes written)
 unfolding object_request
@@ -335,16 +347,17 @@ told-object raw bytes written =
     (λ key keyed. told-bind Any (Fits raw) (asked_at raw (object bytes written)) _ (told-asked raw (object bytes written))
     (λ asked any. told-object_asked raw asked.words name key asked.route named keyed)))
 
-told-other : (raw : RawRequest) (place : Place) → Told (Fits raw) (other_request raw place)
+told-other : (raw : RawRequest) (place : Target) → Told (Fits raw) (other_request raw place)
 told-other raw place = told-bind Any (Fits raw) (asked_at raw place) _ (told-asked raw place) (λ asked any. tt)
 
-pub told-at : (raw : RawRequest) (place : Place) → Told (Fits raw) (request_at raw place)
+pub told-at : (raw : RawRequest) (place : Target) → Told (Fits raw) (request_at raw place)
 told-at raw (bucket bytes) = told-bucket raw bytes
 told-at raw (object bytes written) = told-object raw bytes written
 told-at raw other = told-other raw other
 
 -- a result that is what is asked for has it too
-pub fits : (raw : RawRequest) (result asked : Result Request Problem) → Gives result asked → Told (Fits raw) asked → length raw.body ≤ 4194304 → IfOk result IsRequest
+pub fits : (raw : RawRequest) (result asked : Result Request Problem) → Gives result asked → Told (Fits raw) asked → length raw.body ≤ 4194304
+    → IfOk result IsRequest
 fits raw (Ok x) asked is h short = let same : Told (Fits raw) (Ok x) = rw is at h in same short
 fits raw (Err p) asked is h short = tt
 

@@ -1,5 +1,5 @@
 -- The texts of some answers.
-use Rattle.std.proofs.Common.{◌≡◌, true, false, Some, None, Ok, Err, codes, refl}
+use Rattle.std.proofs.Common.{◌≡◌, true, false, ◌++◌, Some, None, Ok, Err, codes, refl}
 use Rattle.std.specs.Fmt.{digits}
 use Rattle.serde_json.proofs.OnLiterals.{serde_json_on_literals}
 use Rattle.s3r_names.specs.Version.{hex_digits}
@@ -31,7 +31,8 @@ unfolding reply_text status_line code_text length_line last_line digits hex_digi
 head = refl
 
 locked : answer_text (Ok (answer.Object (record { region = 0; index = 2 }) (codes "GLACIER") true false (codes "hi"))) false false
-    ≡ codes "HTTP/1.1 200 OK\r\nContent-Length: 2\r\nx-amz-object-lock-legal-hold: OFF\r\nx-amz-storage-class: GLACIER\r\nx-amz-version-id: 0-0000000000000002\r\n\r\nhi"
+    ≡ codes "HTTP/1.1 200 OK\r\nContent-Length: 2\r\nx-amz-object-lock-legal-hold: OFF\r\nx-amz-storage-class: GLACIER\r\nx-amz-version-id: "
+    ++ codes "0-0000000000000002\r\n\r\nhi"
 unfolding reply_text status_line code_text length_line last_line digits hex_digits
 locked = refl
 
@@ -45,7 +46,8 @@ unfolding reply_text status_line code_text length_line last_line digits
 bucket_gone = refl
 
 marker_there : answer_text (Ok (answer.MarkerThere (record { region = 0; index = 3 }) false)) false false
-    ≡ codes "HTTP/1.1 404 Not Found\r\nContent-Length: 20\r\nContent-Type: application/json\r\nx-amz-delete-marker: true\r\nx-amz-version-id: 0-0000000000000003\r\n\r\n{\"Code\":\"NoSuchKey\"}"
+    ≡ codes "HTTP/1.1 404 Not Found\r\nContent-Length: 20\r\nContent-Type: application/json\r\nx-amz-delete-marker: true\r\nx-amz-version-id: "
+    ++ codes "0-0000000000000003\r\n\r\n{\"Code\":\"NoSuchKey\"}"
 unfolding reply_text status_line code_text length_line last_line digits hex_digits serde_json_on_literals
 marker_there = refl
 
@@ -59,12 +61,14 @@ unfolding reply_text status_line code_text length_line last_line digits
 done = refl
 
 lock_needed : answer_text (Ok (answer.Refused refusal.LockNeeded)) false false
-    ≡ codes "HTTP/1.1 400 Bad Request\r\nContent-Length: 54\r\nContent-Type: application/json\r\n\r\n{\"Code\":\"InvalidRequest\",\"Kind\":\"LockNeeded\",\"Rule\":0}"
+    ≡ codes "HTTP/1.1 400 Bad Request\r\nContent-Length: 54\r\nContent-Type: "
+    ++ codes "application/json\r\n\r\n{\"Code\":\"InvalidRequest\",\"Kind\":\"LockNeeded\",\"Rule\":0}"
 unfolding reply_text status_line code_text length_line last_line digits serde_json_on_literals
 lock_needed = refl
 
 damaged : answer_text (Err (fault.Damaged 3 16)) false false
-    ≡ codes "HTTP/1.1 500 Internal Server Error\r\nContent-Length: 44\r\nContent-Type: application/json\r\n\r\n{\"Code\":\"Damaged\",\"Offset\":16,\"Region\":\"r3\"}"
+    ≡ codes "HTTP/1.1 500 Internal Server Error\r\nContent-Length: 44\r\nContent-Type: "
+    ++ codes "application/json\r\n\r\n{\"Code\":\"Damaged\",\"Offset\":16,\"Region\":\"r3\"}"
 unfolding reply_text status_line code_text length_line last_line digits serde_json_on_literals
 damaged = refl
 

@@ -128,7 +128,8 @@ status_reply word = json_reply 200 (compact_text (status_data word))
 abbrev pub fault_reply : DeskFault → Reply
 fault_reply (fault.Volume region) = json_reply 503 (code_text (codes "VolumeFault") (region_members region))
 fault_reply (fault.Full region) = json_reply 507 (code_text (codes "VolumeFull") (region_members region))
-fault_reply (fault.Damaged region offset) = json_reply 500 (code_text (codes "Damaged") (member (codes "Offset") (number (unsigned offset)) (region_members region)))
+fault_reply (fault.Damaged region offset) = json_reply 500 (code_text (codes "Damaged")
+    (member (codes "Offset") (number (unsigned offset)) (region_members region)))
 fault_reply fault.OutOfMemory = coded 500 (codes "OutOfMemory")
 
 abbrev pub problem_reply : Problem → Reply

@@ -8,7 +8,7 @@ use Rattle.s3r_record.specs.Spelling.{fits_record}
 use Rattle.s3r_http.specs.declared.message.RawRequest.{RawRequest}
 use Rattle.s3r_json.specs.Status.{status_body}
 use Rattle.s3r_json.specs.Tags.{tags_body}
-use Rattle.s3r_routes.specs.Target.{Place, bucket, object, path_of, place_of}
+use Rattle.s3r_routes.specs.Target.{Target, bucket, object, path_of, place_of}
 use Rattle.s3r_routes.specs.Query as query
 use Rattle.s3r_routes.specs.Query.{Pair}
 use Rattle.s3r_routes.specs.declared.words.Word.TheVariants as word
@@ -17,7 +17,7 @@ use Rattle.s3r_routes.specs.declared.rows.Route.TheVariants as route
 use Rattle.s3r_routes.specs.Rows.{route_of}
 use Rattle.s3r_routes.specs.Names.{bucket_named, key_named, key_written, version_named}
 use Rattle.s3r_routes.specs.Values.{given, limit_of, version_of}
-use Rattle.s3r_versions.specs.declared.listing.Place.{Place as Behind}
+use Rattle.s3r_versions.specs.declared.listing.ListPosition.{ListPosition as Behind}
 use Rattle.s3r_desk.specs.declared.request.Request.{Request}
 use Rattle.s3r_desk.specs.declared.request.Request.TheVariants as request
 use Rattle.s3r_api.specs.declared.request.Written.{Written}
@@ -125,7 +125,8 @@ is_put route.PutObject = true
 is_put other = false
 
 abbrev pub object_asked : RawRequest → List Pair → List ℕ → List ℕ → Route → Result Request Problem
-object_asked raw words name key r = if is_put r then put_request raw name key else (routed (version_of words) >>= λ version. version_asked raw name key version r)
+object_asked raw words name key r = if is_put r then put_request raw name key else
+    (routed (version_of words) >>= λ version. version_asked raw name key version r)
 
 -- ---- a target's place, its words and its row
 
@@ -134,7 +135,7 @@ pub record Asked : Type 0 where
   pub words : List Pair
   pub route : Route
 
-abbrev pub asked_at : RawRequest → Place → Result Asked Problem
+abbrev pub asked_at : RawRequest → Target → Result Asked Problem
 asked_at raw place = do
   words ← routed (query.read raw.target)
   route ← routed (route_of place raw.method words)
@@ -155,15 +156,15 @@ object_request raw bytes written = do
   object_asked raw asked.words name key asked.route
 
 -- a row that is there and isn't built
-abbrev pub other_request : RawRequest → Place → Result Request Problem
+abbrev pub other_request : RawRequest → Target → Result Request Problem
 other_request raw place = asked_at raw place >>= λ asked. Err UnknownQuery
 
-abbrev pub request_at : RawRequest → Place → Result Request Problem
+abbrev pub request_at : RawRequest → Target → Result Request Problem
 request_at raw (bucket name) = bucket_request raw name
 request_at raw (object name key) = object_request raw name key
 request_at raw other = other_request raw other
 
-abbrev pub request_in : RawRequest → Option Place → Result Request Problem
+abbrev pub request_in : RawRequest → Option Target → Result Request Problem
 request_in raw None = Err NoSuchRoute
 request_in raw (Some place) = request_at raw place
 

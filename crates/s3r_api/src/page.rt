@@ -10,7 +10,7 @@ use crate::problem::Problem;
 use s3r_desk::Request;
 use s3r_names::{BucketName, Text, VersionId};
 use s3r_routes::{Query, Word, given, key_named, limit_of, version_named};
-use s3r_versions::Place;
+use s3r_versions::ListPosition;
 use std::alloc::{AllocError, Global};
 
 /// How many entries are asked for. InvalidQuery where the words name the version of no key, too.
@@ -38,7 +38,7 @@ fn place_behind(
     alloc: Global,
     key: Option<&str>,
     id: Option<&str>,
-) -> Result<Option<Place>, Problem>
+) -> Result<Option<ListPosition>, Problem>
     ensures { Gives result (place_behind (option_map (λ t. t.now) key.entry) (option_map (λ t. t.now) id.entry)) }
 {
     let Some(key) = key else {
@@ -46,7 +46,7 @@ fn place_behind(
     };
     let key = key_named(alloc, key.as_bytes())?;
     let id = id_behind(id)?;
-    Ok(Some(Place { key, id }))
+    Ok(Some(ListPosition { key, id }))
 }
 
 fn prefix_of(alloc: Global, words: &Query) -> Result<Text, AllocError>

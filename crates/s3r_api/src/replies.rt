@@ -40,7 +40,8 @@ fn region_value(alloc: Global, code: &str, region: &str) -> Result<Value, AllocE
 }
 
 fn place_value(alloc: Global, code: &str, region: &str, offset: u64) -> Result<Value, AllocError>
-    ensures { IfOk result (λ value. view value ≡ code_data code.now (member (codes "Offset") (number (unsigned offset)) (member (codes "Region") (string region.now) no_members))) }
+    ensures { IfOk result (λ value. view value ≡ code_data code.now (member (codes "Offset") (number (unsigned offset))
+        (member (codes "Region") (string region.now) no_members))) }
 {
     json!(in alloc; {"Code": code, "Offset": offset, "Region": region})
 }

@@ -17,7 +17,7 @@ use s3r_json::{status_of, tags_of};
 use s3r_names::{BucketName, Bytes, ClassName, Key, TagSet, VersionId};
 use s3r_record::fits_record;
 use s3r_routes::{
-    Place, Query, Route, bucket_named, key_written, path_of, place_of, route_of, version_of,
+    Query, Route, Routes, Target, bucket_named, key_written, path_of, route_of, version_of,
 };
 use s3r_rules::Config;
 use s3r_rules_json::read_config;
@@ -37,10 +37,10 @@ struct Asked {
     route: Route,
 }
 
-fn asked_at(alloc: Global, raw: &RawRequest, place: &Place) -> Result<Asked, Problem>
+fn asked_at(alloc: Global, raw: &RawRequest, place: &Target) -> Result<Asked, Problem>
     ensures { GivesBy asked_seen result (asked_at raw.now (seen place.now)) }
 {
-    let words = Query::read(alloc, raw.target.as_slice())?;
+    let words = Query::read(alloc, raw.target.as_bytes())?;
     let route = route_of(place, raw.method.as_str(), &words)?;
     Ok(Asked { words, route })
 }
@@ -276,7 +276,7 @@ fn bucket_request(alloc: Global, raw: &RawRequest, bytes: &[u8]) -> Result<Reque
     ensures { Gives result (bucket_request raw.now bytes.now) }
 {
     let name = bucket_named(alloc, bytes)?;
-    let asked = asked_at(alloc, raw, &Place::Bucket(bytes))?;
+    let asked = asked_at(alloc, raw, &Target::Bucket(bytes))?;
     bucket_asked(alloc, raw, &asked.words, name, asked.route)
 }
 
@@ -292,44 +292,44 @@ fn object_request(
 {
     let bucket = bucket_named(alloc, bytes)?;
     let key = key_written(alloc, written)?;
-    let asked = asked_at(alloc, raw, &Place::Object(bytes, written))?;
+    let asked = asked_at(alloc, raw, &Target::Object(bytes, written))?;
     object_asked(alloc, raw, &asked.words, bucket, key, asked.route)
 }
 
 /// A row that is there and isn't built.
-fn other_request(alloc: Global, raw: &RawRequest, place: &Place) -> Result<Request, Problem>
+fn other_request(alloc: Global, raw: &RawRequest, place: &Target) -> Result<Request, Problem>
     ensures { Gives result (other_request raw.now (seen place.now)) }
 {
     asked_at(alloc, raw, place)?;
     Err(Problem::UnknownQuery)
 }
 
-fn request_at(alloc: Global, raw: &RawRequest, place: &Place) -> Result<Request, Problem>
+fn request_at(alloc: Global, raw: &RawRequest, place: &Target) -> Result<Request, Problem>
     ensures { Gives result (request_at raw.now (seen place.now)) }
 {
     match place {
-        Place::Bucket(name) => bucket_request(alloc, raw, name),
-        Place::Object(name, key) => object_request(alloc, raw, name, key),
-        Place::Jobs
-        | Place::Job(_)
-        | Place::JobPriority(_)
-        | Place::JobStatus(_)
-        | Place::Copy
-        | Place::JobTurn
-        | Place::Work
-        | Place::Check => other_request(alloc, raw, place),
+        Target::Bucket(name) => bucket_request(alloc, raw, name),
+        Target::Object(name, key) => object_request(alloc, raw, name, key),
+        Target::Jobs
+        | Target::Job(_)
+        | Target::JobPriority(_)
+        | Target::JobStatus(_)
+        | Target::Copy
+        | Target::JobTurn
+        | Target::Work
+        | Target::Check => other_request(alloc, raw, place),
     }
 }
 
 /// The request that a framed request is, or the first reason why it is none.
 #[tactic(auto, unfolding(crate::specs::Request::request_of))]
-pub fn to_request(alloc: Global, raw: &RawRequest) -> Result<Request, Problem>
+pub fn to_request(alloc: Global, routes: &Routes, raw: &RawRequest) -> Result<Request, Problem>
     ensures exact { Gives result (request_of raw.now) }
     // A request's body is no longer than this once it is framed.
     ensures fits { length raw.now.body ≤ 4194304 → IfOk result IsRequest }
     ensures problems { IfErr result IsOfRequest }
 {
-    match place_of(path_of(raw.target.as_slice())) {
+    match routes.place_of(path_of(raw.target.as_str())) {
         Some(place) => request_at(alloc, raw, &place),
         None => Err(Problem::NoSuchRoute),
     }

@@ -6,8 +6,12 @@ use Rattle.s3r_desk.specs.declared.fault.DeskFault.{DeskFault}
 use Rattle.s3r_desk.specs.declared.fault.DeskFault.TheVariants as faults
 use Rattle.s3r_desk.specs.Responds.{HasCause}
 
-pub cause_wider : (A B : Type 0) (m n : ℕ) (e : DeskFault) (a b d : Counts) → m ≤ n → NoneFalls a b → HasCause {A = A} m (Err e) b d → HasCause {A = B} n (Err e) a d
-cause_wider A B m n (faults.Volume v) a b d le falls cause = (omega (arith, le, cause.0), rises_after 1 (a.volume v) (b.volume v) (d.volume v) (falls.volume v) cause.1)
+pub cause_wider : (A B : Type 0) (m n : ℕ) (e : DeskFault) (a b d : Counts) → m ≤ n → NoneFalls a b → HasCause {A = A} m (Err e) b d
+    → HasCause {A = B} n (Err e) a d
+cause_wider A B m n (faults.Volume v) a b d le falls cause = (
+  omega (arith, le, cause.0),
+  rises_after 1 (a.volume v) (b.volume v) (d.volume v) (falls.volume v) cause.1,
+)
 cause_wider A B m n (faults.Full v) a b d le falls cause = omega (arith, le, cause)
 cause_wider A B m n (faults.Damaged v offset) a b d le falls cause = omega (arith, le, cause)
 cause_wider A B m n faults.OutOfMemory a b d le falls cause = tt

@@ -5,7 +5,7 @@ use Rattle.s3r_names.specs.declared.version.VersionId.{VersionId}
 use Rattle.s3r_names.specs.Version.{IsVersionId}
 use Rattle.s3r_history.specs.Words.{Name}
 use Rattle.s3r_history.specs.Past.{Entry}
-use Rattle.s3r_history.specs.Told.{Told}
+use Rattle.s3r_history.specs.BucketView.{BucketView}
 use Rattle.s3r_history.specs.declared.refusal.Refusal.{Refusal}
 use Rattle.s3r_versions.specs.Lookup.{is_version, is_latest}
 use Rattle.s3r_region.specs.Contents.{is_id, have_ids}
@@ -29,11 +29,13 @@ found p (row ∷ rows) ids = go (p row) (found p rows parts.1)
     go true ih = rule row.id parts.0
     go false ih = ih
 
-sought_id : (key : Name) (version : Option VersionId) (at : Told) → have_ids at.rows ≡ true → IfSome (sought key version at) (λ (row : Entry). IsVersionId row.id)
+sought_id : (key : Name) (version : Option VersionId) (at : BucketView) → have_ids at.rows ≡ true
+    → IfSome (sought key version at) (λ (row : Entry). IsVersionId row.id)
 sought_id key None at ids = found (is_latest key at.rows) at.rows ids
 sought_id key (Some id) at ids = found (is_version key id) at.rows ids
 
-object_id : (version : Option VersionId) (o : Option Entry) → IfSome o (λ (row : Entry). IsVersionId row.id) → (result : Result (Bor Entry) Refusal) → Finds (object_of version o) result → IfOk result (λ row. IsVersionId row.now.id)
+object_id : (version : Option VersionId) (o : Option Entry) → IfSome o (λ (row : Entry). IsVersionId row.id) → (result : Result (Bor Entry) Refusal)
+    → Finds (object_of version o) result → IfOk result (λ row. IsVersionId row.now.id)
 object_id version o ids (Err why) found = tt
 object_id version None ids (Ok row) found = absurd cc
 object_id version (Some r) ids (Ok row) found = go r.marker found
@@ -42,5 +44,6 @@ object_id version (Some r) ids (Ok row) found = go r.marker found
     go true e = absurd cc
     go false e = let same : r ≡ row.now = cc in subst (λ (x : Entry). IsVersionId x.id) same ids
 
-pub found_id : (key : Name) (version : Option VersionId) (at : Told) (result : Result (Bor Entry) Refusal) → have_ids at.rows ≡ true → Finds (object_of version (sought key version at)) result → IfOk result (λ row. IsVersionId row.now.id)
+pub found_id : (key : Name) (version : Option VersionId) (at : BucketView) (result : Result (Bor Entry) Refusal) → have_ids at.rows ≡ true
+    → Finds (object_of version (sought key version at)) result → IfOk result (λ row. IsVersionId row.now.id)
 found_id key version at result ids found = object_id version (sought key version at) (sought_id key version at ids) result found

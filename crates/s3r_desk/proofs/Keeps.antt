@@ -6,7 +6,7 @@ use Rattle.std.proofs.lemmas.Bool.{cases_lt}
 use Rattle.s3r_world.specs.Outside.{Outside}
 use Rattle.s3r_journal.specs.Leaves.{Leaves}
 use Rattle.s3r_history.specs.Words.{History}
-use Rattle.s3r_store.specs.declared.held.Held.{Held}
+use Rattle.s3r_store.specs.declared.loaded_region.LoadedRegion.{LoadedRegion}
 use Rattle.s3r_store.specs.declared.store.Store.{Store}
 use Rattle.s3r_store.specs.Knows.{Knows, Ties, IsKnown, Holds}
 use Rattle.s3r_store.proofs.Left.{knows_left}
@@ -15,15 +15,17 @@ use Rattle.s3r_desk.specs.Keeping.{AreNumbered, IsHeld, Keeps, AreTied}
 use Rattle.s3r_desk.proofs.Places.{same_or_other, get_set_same, get_set_other, one_of}
 
 -- numbers that are the same
-pub knows_as : (m n v r : ℕ) (held : Held) (h : History) (w : Outside) → m ≡ n → v ≡ r → Knows m v held h w → Knows n r held h w
+pub knows_as : (m n v r : ℕ) (held : LoadedRegion) (h : History) (w : Outside) → m ≡ n → v ≡ r → Knows m v held h w → Knows n r held h w
 knows_as m n v r held h w regions region knows = subst (λ (k : ℕ). Knows k r held h w) regions (subst (λ (k : ℕ). Knows m k held h w) region knows)
 
-pub held_left : (n : ℕ) (before after : Events) (q : ℕ) (held : Option Held) (a b : Outside) → known after q ≡ known before q → Leaves q a b → IsHeld n before q held a → IsHeld n after q held b
+pub held_left : (n : ℕ) (before after : Events) (q : ℕ) (held : Option LoadedRegion) (a b : Outside) → known after q ≡ known before q → Leaves q a b
+    → IsHeld n before q held a → IsHeld n after q held b
 held_left n before after q None a b same left was = same ∙ was
 held_left n before after q (Some held) a b same left was = (was.0, same ∙ was.1, knows_left n q held was.0 a b left was.2)
 
 module _ (before after : Events) (stores : List Store) (r : ℕ) (s' : Store) (a b : Outside) (lt : r < length stores) where
-  pub keeps_set : Keeps before stores a → IsHeld s'.regions after r s'.held b → ((q : ℕ) → (q ≡ r → ⊥) → known after q ≡ known before q) → ((q : ℕ) → (q ≡ r → ⊥) → Leaves q a b) → Keeps after (slice_set stores r s') b
+  pub keeps_set : Keeps before stores a → IsHeld s'.regions after r s'.held b → ((q : ℕ) → (q ≡ r → ⊥) → known after q ≡ known before q)
+      → ((q : ℕ) → (q ≡ r → ⊥) → Leaves q a b) → Keeps after (slice_set stores r s') b
   keeps_set was here same left q s get = ⊎_elim
       (λ e.
       let is : s' ≡ s = one_of _ s' s (get_set_same stores r s' lt) (subst (λ (m : ℕ). slice_get (slice_set stores r s') m ≡ Some s) e get) in
@@ -35,7 +37,8 @@ module _ (before after : Events) (stores : List Store) (r : ℕ) (s' : Store) (a
 pub keeps_left : (before : Events) (stores : List Store) (a b : Outside) → ((q : ℕ) → Leaves q a b) → Keeps before stores a → Keeps before stores b
 keeps_left before stores a b left was q s get = held_left s.regions before before q s.held a b refl (left q) (was q s get)
 
-pub numbered_set : (stores : List Store) (r : ℕ) (s s' : Store) → r < length stores → slice_get stores r ≡ Some s → s'.v ≡ s.v → s'.regions ≡ s.regions → AreNumbered stores → AreNumbered (slice_set stores r s')
+pub numbered_set : (stores : List Store) (r : ℕ) (s s' : Store) → r < length stores → slice_get stores r ≡ Some s → s'.v ≡ s.v → s'.regions ≡ s.regions
+    → AreNumbered stores → AreNumbered (slice_set stores r s')
 numbered_set stores r s s' lt at v regions was = record {
   v = λ q x get. ⊎_elim
       (λ e.
@@ -51,18 +54,20 @@ numbered_set stores r s s' lt at v regions was = record {
       (same_or_other q r);
 }
 
-ties_of : (events : Events) (r : ℕ) (s : Store) (w : Outside) → s.v ≡ r → (held : Option Held) → IsHeld s.regions events r held w → IfSome held (λ x. IsKnown s.regions s.v x w)
+ties_of : (events : Events) (r : ℕ) (s : Store) (w : Outside) → s.v ≡ r → (held : Option LoadedRegion) → IsHeld s.regions events r held w
+    → IfSome held (λ x. IsKnown s.regions s.v x w)
 ties_of events r s w is None was = tt
 ties_of events r s w is (Some held) was = (was.0, subst (λ (m : ℕ). Knows s.regions m held was.0 w) (sym is) was.2)
 
 pub tied : (events : Events) (stores : List Store) (w : Outside) → AreNumbered stores → Keeps events stores w → AreTied stores w
 tied events stores w numbered keeps r s get = ties_of events r s w (numbered.v r s get) s.held (keeps r s get)
 
-known_left : (n v : ℕ) (o : Option Held) (a b : Outside) → Leaves v a b → IfSome o (λ held. IsKnown n v held a) → IfSome o (λ held. IsKnown n v held b)
+known_left : (n v : ℕ) (o : Option LoadedRegion) (a b : Outside) → Leaves v a b → IfSome o (λ held. IsKnown n v held a) → IfSome o (λ held. IsKnown n v held b)
 known_left n v None a b left was = tt
 known_left n v (Some held) a b left was = (was.0, knows_left n v held was.0 a b left was.1)
 
-pub tied_set : (stores : List Store) (r : ℕ) (s' : Store) (a b : Outside) → r < length stores → AreTied stores a → Ties s' b → ((q : ℕ) → Leaves q a b) → AreTied (slice_set stores r s') b
+pub tied_set : (stores : List Store) (r : ℕ) (s' : Store) (a b : Outside) → r < length stores → AreTied stores a → Ties s' b → ((q : ℕ) → Leaves q a b)
+    → AreTied (slice_set stores r s') b
 tied_set stores r s' a b lt was here left q s get = ⊎_elim
     (λ e.
     let is : s' ≡ s = one_of _ s' s (get_set_same stores r s' lt) (subst (λ (m : ℕ). slice_get (slice_set stores r s') m ≡ Some s) e get) in
@@ -71,16 +76,18 @@ tied_set stores r s' a b lt was here left q s get = ⊎_elim
     (same_or_other q r)
 
 pub ties_none : (s : Store) (w : Outside) → s.held ≡ None → Ties s w
-ties_none s w none = subst (λ (o : Option Held). IfSome o (λ held. IsKnown s.regions s.v held w)) (sym none) tt
+ties_none s w none = subst (λ (o : Option LoadedRegion). IfSome o (λ held. IsKnown s.regions s.v held w)) (sym none) tt
 
-ties_some : (n v : ℕ) (o : Option Held) (w : Outside) (h : History) → IsSomeAnd o (λ held. Knows n v held h w) → IfSome o (λ held. IsKnown n v held w)
+ties_some : (n v : ℕ) (o : Option LoadedRegion) (w : Outside) (h : History) → IsSomeAnd o (λ held. Knows n v held h w) → IfSome o (λ held. IsKnown n v held w)
 ties_some n v None w h holds = absurd holds
 ties_some n v (Some held) w h holds = (h, holds)
 
 pub ties_held : (s : Store) (w : Outside) (h : History) → Holds s h w → Ties s w
 ties_held s w h holds = ties_some s.regions s.v s.held w h holds
 
-pub read_set : (stores : List Store) (r : ℕ) (s' : Store) (n : ℕ) → r < length stores → IsSome s'.held → ((q : ℕ) (s : Store) → q < r → slice_get stores q ≡ Some s → IsSome s.held) → (q : ℕ) (s : Store) → q < r + 1 → slice_get (slice_set stores r s') q ≡ Some s → IsSome s.held
+pub read_set : (stores : List Store) (r : ℕ) (s' : Store) (n : ℕ) → r < length stores → IsSome s'.held
+    → ((q : ℕ) (s : Store) → q < r → slice_get stores q ≡ Some s → IsSome s.held) → (q : ℕ) (s : Store) → q < r + 1
+    → slice_get (slice_set stores r s') q ≡ Some s → IsSome s.held
 read_set stores r s' n lt here was q s below get = ⊎_elim
     (λ e.
     let is : s' ≡ s = one_of _ s' s (get_set_same stores r s' lt) (subst (λ (m : ℕ). slice_get (slice_set stores r s') m ≡ Some s) e get) in

@@ -1,11 +1,12 @@
 pub mod Places
 pub mod Knowing
+pub mod Advancing
 pub mod Stepping
 pub mod Keeps
 pub mod Touched
 pub mod Causes
 pub mod CommitsMade
-pub mod Homes
+pub mod Locations
 pub mod Coming
 mod Responding
 pub mod Ids

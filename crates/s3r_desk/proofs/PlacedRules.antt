@@ -12,19 +12,19 @@ use Rattle.s3r_record.specs.Placing.{have_one_region, agree, has_texts, IsPlaced
 use Rattle.s3r_record.specs.Spelling.{IsCommand, fits_record}
 use Rattle.s3r_record.proofs.Lengths.{regions_keep}
 use Rattle.s3r_history.specs.Words.{Name}
-use Rattle.s3r_history.specs.Told.{Told}
-use Rattle.s3r_desk.specs.Steps.{Home, Views, or_home, home_from, home, region_of, regions_of}
+use Rattle.s3r_history.specs.BucketView.{BucketView}
+use Rattle.s3r_desk.specs.Steps.{BucketLocation, Views, or_location, location_from, location, region_of, regions_of}
 
--- a home's region is one of those that are there
-pub below : (r n most : ℕ) (views : Views) (b : Name) → r + n ≤ most + 1 → region_of (home_from r n views b) ≤ most
+-- a location's region is one of those that are there
+pub below : (r n most : ℕ) (views : Views) (b : Name) → r + n ≤ most + 1 → region_of (location_from r n views b) ≤ most
 below r zero most views b within = omega arith
 below r (suc n) most views b within = go (views r b) (below (r + 1) n most views b (omega (arith, within)))
   where
-    go : (o : Option Told) → region_of (home_from (r + 1) n views b) ≤ most → region_of (or_home r o (home_from (r + 1) n views b)) ≤ most
+    go : (o : Option BucketView) → region_of (location_from (r + 1) n views b) ≤ most → region_of (or_location r o (location_from (r + 1) n views b)) ≤ most
     go None later = later
     go (Some t) later = omega (arith, within)
 
-module _ (at : Name → Option Home) where
+module _ (at : Name → Option BucketLocation) where
   count : (rules : List Rule) → length (regions_of at rules) ≡ length rules
   count [] = refl
   count (rule ∷ rules) = ap suc (count rules)
@@ -38,7 +38,8 @@ module _ (at : Name → Option Home) where
   one_region first second = go (bytes_eq first.bucket second.bucket) refl
     where
       go : (t : Bool) → bytes_eq first.bucket second.bucket ≡ t → (not t || region_of (at first.bucket) == region_of (at second.bucket)) ≡ true
-      go true e = eq-eqb (region_of (at first.bucket)) (region_of (at second.bucket)) (ap (λ b. region_of (at b)) ((bytes_eq-Decides first.bucket second.bucket).0 e))
+      go true e = eq-eqb (region_of (at first.bucket)) (region_of (at second.bucket))
+          (ap (λ b. region_of (at b)) ((bytes_eq-Decides first.bucket second.bucket).0 e))
       go false e = refl
 
   all_one : (rule : Rule) (rules : List Rule) → list_all (have_one_region (rule, region_of (at rule.bucket))) (zip rules (regions_of at rules)) ≡ true
@@ -58,15 +59,16 @@ config_few rules lawful =
     let p2 = and_parts _ (list_all is_rule rules) p3.0 in
     leb-true (length rules) 1000 (and_parts some few p2.0).1
 
-pub is_command : (n : ℕ) (views : Views) (name : Name) (rules : List Rule) (regions : List ℕ) → n ≤ 8 → is_bucket_name name ≡ true → is_config rules ≡ true → fits_record name rules ≡ true → list_all has_texts rules ≡ true
-    → regions ≡ regions_of (home n views) rules → IsCommand (command.SetReplication name rules regions)
+pub is_command : (n : ℕ) (views : Views) (name : Name) (rules : List Rule) (regions : List ℕ) → n ≤ 8 → is_bucket_name name ≡ true → is_config rules ≡ true
+    → fits_record name rules ≡ true → list_all has_texts rules ≡ true
+    → regions ≡ regions_of (location n views) rules → IsCommand (command.SetReplication name rules regions)
 is_command n views name rules regions few named lawful fits texts is =
-    let many : length regions ≡ length rules = ap length is ∙ count (home n views) rules in
-    let low = all_below (home n views) (λ b. below 0 n 7 views b (omega (arith, few))) rules in
+    let many : length regions ≡ length rules = ap length is ∙ count (location n views) rules in
+    let low = all_below (location n views) (λ b. below 0 n 7 views b (omega (arith, few))) rules in
     let placed : IsPlaced rules regions = record {
       count = many;
       regions = ap (list_all (λ region. nat_le region 7)) is ∙ low;
-      agree = ap (λ rs. agree (zip rules rs)) is ∙ all_agree (home n views) rules;
+      agree = ap (λ rs. agree (zip rules rs)) is ∙ all_agree (location n views) rules;
     } in
     (named, lawful, placed, regions_keep name rules regions many fits, texts)
 
@@ -76,10 +78,12 @@ pub next_is : {X : Type 0} (xs : List X) (i : ℕ) (x : X) → i < length xs →
 next_is xs i x lt is = drop-cons xs i x lt ∙ ap (λ y. y ∷ drop (suc i) xs) (sym is) ∙ ap (λ k. x ∷ drop k xs) (sym (add-one i))
 
 -- the regions of the rules up to one, and its own
-regions_to : (at : Name → Option Home) (rules : List Rule) (i : ℕ) (rule : Rule) → i < length rules → rule ≡ get_or rules i rule → regions_of at (take (suc i) rules) ≡ regions_of at (take i rules) ++ region_of (at rule.bucket) ∷ []
+regions_to : (at : Name → Option BucketLocation) (rules : List Rule) (i : ℕ) (rule : Rule) → i < length rules → rule ≡ get_or rules i rule
+    → regions_of at (take (suc i) rules) ≡ regions_of at (take i rules) ++ region_of (at rule.bucket) ∷ []
 regions_to at [] i rule lt is = absurd (omega arith)
 regions_to at (first ∷ rules) zero rule lt is = ap (λ (r : Rule). region_of (at r.bucket) ∷ []) (sym is)
 regions_to at (first ∷ rules) (suc i) rule lt is = ap (λ rs. region_of (at first.bucket) ∷ rs) (regions_to at rules i rule (omega arith) is)
 
-pub regions_more : (at : Name → Option Home) (rules : List Rule) (i : ℕ) (rule : Rule) → i < length rules → rule ≡ get_or rules i rule → regions_of at (take (i + 1) rules) ≡ regions_of at (take i rules) ++ region_of (at rule.bucket) ∷ []
+pub regions_more : (at : Name → Option BucketLocation) (rules : List Rule) (i : ℕ) (rule : Rule) → i < length rules → rule ≡ get_or rules i rule
+    → regions_of at (take (i + 1) rules) ≡ regions_of at (take i rules) ++ region_of (at rule.bucket) ∷ []
 regions_more at rules i rule lt is = ap (λ k. regions_of at (take k rules)) (add-one i) ∙ regions_to at rules i rule lt is

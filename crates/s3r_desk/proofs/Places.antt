@@ -25,10 +25,16 @@ get_set_other {X} (y ∷ xs) (suc r) (suc q) x ne = get_set_other xs r q x (λ e
 pub get_at : {X : Type 0} (xs : List X) (r : ℕ) (d : X) → r < length xs → d ≡ slice_index_or xs r d → slice_get xs r ≡ Some d
 get_at {X} xs r d lt is = slice_get-get_or xs r d lt ∙ ap (λ (x : X). Some x) (sym is)
 
+pub get_there : {X : Type 0} (xs : List X) (r : ℕ) → r < length xs → (x : X) × (slice_get xs r ≡ Some x)
+get_there [] r lt = absurd (omega (arith, lt))
+get_there {X} (x ∷ xs) zero lt = (x, refl)
+get_there {X} (x ∷ xs) (suc r) lt = get_there xs r (omega (arith, lt))
+
 pub one_of : {X : Type 0} (o : Option X) (x y : X) → o ≡ Some x → o ≡ Some y → x ≡ y
 one_of o x y a b = let e : Some x ≡ Some y = sym a ∙ b in cc
 
-pub get_pushed : {X : Type 0} (xs : List X) (x : X) (r : ℕ) (y : X) → slice_get (xs ++ x ∷ []) r ≡ Some y → (slice_get xs r ≡ Some y) ⊎ ((r ≡ length xs) × (x ≡ y))
+pub get_pushed : {X : Type 0} (xs : List X) (x : X) (r : ℕ) (y : X) → slice_get (xs ++ x ∷ []) r ≡ Some y → (slice_get xs r ≡ Some y)
+    ⊎ ((r ≡ length xs) × (x ≡ y))
 get_pushed [] x zero y e = inr (refl, cc)
 get_pushed [] x (suc r) y e = absurd cc
 get_pushed {X} (z ∷ xs) x zero y e = inl e

@@ -2,7 +2,7 @@
 use Rattle.std.specs.Prelude.{◌≡◌, ℕ, List, length, Option, Some, None, slice_get, IsSome}
 use Rattle.s3r_world.specs.Outside.{Outside}
 use Rattle.s3r_history.specs.Words.{History}
-use Rattle.s3r_store.specs.declared.held.Held.{Held}
+use Rattle.s3r_store.specs.declared.loaded_region.LoadedRegion.{LoadedRegion}
 use Rattle.s3r_store.specs.declared.store.Store.{Store}
 use Rattle.s3r_store.specs.Knows.{Knows, Ties}
 use Rattle.s3r_desk.specs.Events.{Events, known}
@@ -13,7 +13,7 @@ pub record AreNumbered (stores : List Store) : Type 0 where
   pub regions : (r : ℕ) (s : Store) → slice_get stores r ≡ Some s → s.regions ≡ length stores
 
 -- what was read of a region, one of n, is what was found last, and nothing was read where nothing is known
-abbrev pub IsHeld : ℕ → Events → ℕ → Option Held → Outside → Type 0
+abbrev pub IsHeld : ℕ → Events → ℕ → Option LoadedRegion → Outside → Type 0
 IsHeld n events r None w = known events r ≡ None
 IsHeld n events r (Some held) w = (h : History) × (known events r ≡ Some h) × Knows n r held h w
 

@@ -5,19 +5,19 @@ use Rattle.s3r_history.specs.Past.{Entry}
 use Rattle.s3r_history.specs.declared.refusal.Refusal.{Refusal}
 use Rattle.std.specs.Option.{option_and_then}
 use Rattle.s3r_history.specs.Words.{Name}
-use Rattle.s3r_history.specs.Told.{Told}
+use Rattle.s3r_history.specs.BucketView.{BucketView}
 use Rattle.s3r_region.specs.declared.bucket.Bucket.{Bucket}
 use Rattle.s3r_region.specs.Contents.{Contents}
 use Rattle.s3r_region.specs.After.{seen_bucket, seen, told_by}
 use Rattle.s3r_store.specs.declared.store.Store.{Store}
 use Rattle.s3r_store.specs.Stores.{state_of}
-use Rattle.s3r_desk.specs.declared.home.Home as declared
-use Rattle.s3r_desk.specs.Steps.{Home, Views}
+use Rattle.s3r_desk.specs.declared.bucket_location.BucketLocation as declared
+use Rattle.s3r_desk.specs.Steps.{BucketLocation, Views}
 
 abbrev pub bucket_in : Name → Store → Option Bucket
 bucket_in b store = option_and_then (λ (state : Contents). seen_bucket state b) (state_of store)
 
-abbrev pub told_in : Name → Store → Option Told
+abbrev pub told_in : Name → Store → Option BucketView
 told_in b store = option_and_then (λ (state : Contents). seen state b) (state_of store)
 
 -- what so many stores tell, one for each region
@@ -25,8 +25,8 @@ abbrev pub views_of : List Store → Views
 views_of stores r b = option_and_then (told_in b) (slice_get stores r)
 
 -- the region of a bucket, and what it tells of it
-abbrev pub seen_home : declared.Home → Home
-seen_home h = record { region = h.region; told = told_by h.bucket.now }
+abbrev pub seen_location : declared.BucketLocation → BucketLocation
+seen_location h = record { region = h.region; told = told_by h.bucket.now }
 
 -- a region by its number, where there are so many
 abbrev pub region_in : Option ℕ → ℕ → Option ℕ

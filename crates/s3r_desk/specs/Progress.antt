@@ -1,14 +1,27 @@
 -- What events leave in the images of a world.
-use Rattle.std.specs.Prelude.{◌≡◌, ℕ, ◌<◌, List, ◌++◌}
+use Rattle.std.specs.Prelude.{◌≡◌, ℕ, ◌<◌, List, [], ◌∷◌, ◌++◌, Some}
 use Rattle.s3r_world.specs.Image.{Image, Reached, Follows}
 use Rattle.s3r_world.specs.Outside.{Outside, Elapses, KeepsInput}
 use Rattle.s3r_history.specs.Words.{History}
-use Rattle.s3r_store.specs.Stands.{StandsFor}
-use Rattle.s3r_desk.specs.Events.{Events, Leads}
+use Rattle.s3r_store.specs.Stands.{StandsFor, KeepsFormat}
+use Rattle.s3r_desk.specs.Events.{found, began, answered, Events, known, Leads}
 
--- a region's volume stands for a history to which the events lead; n is the number of regions
-abbrev pub Advances : ℕ → Events → ℕ → List ℕ → List ℕ → Type 0
-Advances n events r old new = (h : History) → StandsFor n r h old → (k : History) × StandsFor n r k new × Leads events r h k
+-- no commit to the region began
+abbrev pub IsLeft : Events → ℕ → Type 0
+IsLeft [] r = Unit {0}
+IsLeft (found s h ∷ events) r = IsLeft events r
+IsLeft (began s c ∷ events) r = (s ≡ r → ⊥) × IsLeft events r
+IsLeft (answered text ∷ events) r = IsLeft events r
+
+-- What events leave of a region's volume; n is the number of regions.
+pub record Advances (n : ℕ) (events : Events) (r : ℕ) (old new : List ℕ) : Type 0 where
+  -- what stood for a lawful history stands for one to which the events lead
+  pub leads : (h : History) → StandsFor n r h old → (k : History) × StandsFor n r k new × Leads events r h k
+  -- what is known of the region is what the volume stands for
+  pub known_is : (h : History) → known events r ≡ Some h → StandsFor n r h new
+  -- where no commit began no byte was written
+  pub left : IsLeft events r → new ≡ old
+  pub format : KeepsFormat old new
 
 -- so each volume below n does, and the output is the same
 pub record Progress (n : ℕ) (events : Events) (old new : Image) : Type 0 where

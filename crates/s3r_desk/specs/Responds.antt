@@ -1,5 +1,5 @@
 -- What the desk does at a request.
-use Rattle.std.specs.Prelude.{◌≡◌, ◌⊎◌, ℕ, ◌+◌, ◌<◌, ◌≤◌, List, [], ◌∷◌, ◌++◌, length, Some, None, Result, Ok, Err, IsSome}
+use Rattle.std.specs.Prelude.{◌≡◌, ◌⊎◌, ℕ, ◌+◌, ◌<◌, ◌≤◌, List, [], ◌∷◌, ◌++◌, length, Some, None, Result, Ok, Err, OnErr, IsSome}
 use Rattle.s3r_world.specs.Image.{Image}
 use Rattle.s3r_world.specs.Outside.{Outside, Looks, Counts, Rises}
 use Rattle.s3r_record.specs.declared.command.Command.{Command}
@@ -17,14 +17,20 @@ use Rattle.s3r_desk.specs.declared.request.Answer.{Answer}
 use Rattle.s3r_desk.specs.Events.{found, began, answered, Events, known, history_at}
 use Rattle.s3r_desk.specs.declared.planning.Plan.TheVariants.{Commits}
 use Rattle.s3r_desk.specs.declared.planning.Reply.{Reply}
-use Rattle.s3r_desk.specs.Steps.{Commit, Step, step, made_of, made, FitRooms}
+use Rattle.s3r_desk.specs.Steps.{Histories, Commit, Step, step, made_of, after_commits, made, FitRooms}
 use Rattle.s3r_desk.specs.Keeping.{Keeps}
 use Rattle.s3r_desk.specs.Progress.{Happens}
 
--- regions below n of which nothing was known were found to have histories that have P
+-- The first region below n that isn't known.
+pub record IsNext (n : ℕ) (events : Events) (v : ℕ) : Type 0 where
+  pub below : v < n
+  pub unread : known events v ≡ None
+  pub others : (r : ℕ) → r < v → IsSome (known events r)
+
+-- regions below n that weren't known were found, in order, to have histories that have P
 abbrev pub AreTouched : (ℕ → History → Type 0) → ℕ → Events → Events → Type 0
 AreTouched P n before [] = Unit {0}
-AreTouched P n before (found r h ∷ events) = (r < n) × (known (events ++ before) r ≡ None) × P r h × AreTouched P n before events
+AreTouched P n before (found r h ∷ events) = IsNext n (events ++ before) r × P r h × AreTouched P n before events
 AreTouched P n before (began r c ∷ events) = ⊥
 AreTouched P n before (answered text ∷ events) = ⊥
 
@@ -32,44 +38,68 @@ AreTouched P n before (answered text ∷ events) = ⊥
 abbrev pub AreKnown : ℕ → Events → Type 0
 AreKnown n events = (r : ℕ) → r < n → IsSome (known events r)
 
--- the one commit of a step began, and is in doubt
-pub record IsBegun (commits : List Commit) (events : Events) : Type 0 where
-  pub commit : Commit
-  pub one : commits ≡ commit ∷ []
-  pub begun : events ≡ began commit.region commit.command ∷ []
+-- A first part of the commits was made sure, and the next one wasn't.
+pub record StopsAt (room : ℕ → ℕ) (at : Histories) (commits : List Commit) (events : Events) : Type 0 where
+  pub first : List Commit
+  pub next : Commit
+  pub others : List Commit
+  pub parts : commits ≡ first ++ next ∷ others
+  pub fit : FitRooms room at first
+  -- what happened to the next
+  pub last : Events
+  pub events_are : events ≡ last ++ made at first
 
--- a commit would pass the room of its volume
-pub record PassesRoom (room : ℕ → ℕ) (v : ℕ) (at : ℕ → History) (commits : List Commit) : Type 0 where
-  pub command : Command
-  pub one : commits ≡ record { region = v; command = command } ∷ []
-  pub full : room v < length_with v (at v) command
+-- the next commit began, and is in doubt
+abbrev pub IsInDoubt : Commit → Events → Type 0
+IsInDoubt commit events = events ≡ began commit.region commit.command ∷ []
 
--- what a request comes to where all histories are known: its step, whole, or its commit in doubt, or none
-abbrev pub Comes : (ℕ → ℕ) → (ℕ → History) → List Commit → Answer → Events → Result Answer DeskFault → Type 0
+-- the next commit is one to this volume, which has room for it, and is in doubt
+pub record IsBegun (room : ℕ → ℕ) (v : ℕ) (at : Histories) (commits : List Commit) (events : Events) : Type 0 where
+  pub stops : StopsAt room at commits events
+  pub region : stops.next.region ≡ v
+  pub fits : length_with v (after_commits stops.first at v) stops.next.command ≤ room v
+  pub doubt : IsInDoubt stops.next stops.last
+
+-- the next commit would pass the room of this volume, and wasn't begun
+pub record PassesRoom (room : ℕ → ℕ) (v : ℕ) (at : Histories) (commits : List Commit) (events : Events) : Type 0 where
+  pub stops : StopsAt room at commits events
+  pub region : stops.next.region ≡ v
+  pub full : room v < length_with v (after_commits stops.first at v) stops.next.command
+  pub none : stops.last ≡ []
+
+-- there was no memory: nothing was done, or the next commit wasn't begun, or is in doubt
+abbrev pub IsStarved : (ℕ → ℕ) → Histories → List Commit → Events → Type 0
+IsStarved room at commits events = (events ≡ []) ⊎ ((stops : StopsAt room at commits events) × ((stops.last ≡ []) ⊎ IsInDoubt stops.next stops.last))
+
+-- What a request comes to where all histories are known: its step, whole; or a first part of its commits, and the next
+-- in doubt or past its volume's room.
+abbrev pub Comes : (ℕ → ℕ) → Histories → List Commit → Answer → Events → Result Answer DeskFault → Type 0
 Comes room at commits reply events (Ok a) = (a ≡ reply) × (events ≡ made at commits) × FitRooms room at commits
-Comes room at commits reply events (Err (faults.Volume v)) = (begun : IsBegun commits events) × (begun.commit.region ≡ v)
-Comes room at commits reply events (Err (faults.Full v)) = (events ≡ []) × PassesRoom room v at commits
+Comes room at commits reply events (Err (faults.Volume v)) = IsBegun room v at commits events
+Comes room at commits reply events (Err (faults.Full v)) = PassesRoom room v at commits events
 Comes room at commits reply events (Err (faults.Damaged v offset)) = ⊥
-Comes room at commits reply events (Err faults.OutOfMemory) = (events ≡ []) ⊎ IsBegun commits events
+Comes room at commits reply events (Err faults.OutOfMemory) = IsStarved room at commits events
 
 abbrev pub Steps : ℕ → (ℕ → ℕ) → Events → Request → Events → Result Answer DeskFault → Type 0
 Steps n room before request events result = let at = history_at before in let s = step n at request in Comes room at s.commits s.reply events result
 
--- a touch failed: want of memory, a volume's fault, or damage
-abbrev pub FailsToTouch : {A : Type 0} → Result A DeskFault → Type 0
-FailsToTouch (Ok a) = ⊥
-FailsToTouch (Err (faults.Volume v)) = Unit {0}
-FailsToTouch (Err (faults.Full v)) = ⊥
-FailsToTouch (Err (faults.Damaged v offset)) = Unit {0}
-FailsToTouch (Err faults.OutOfMemory) = Unit {0}
+-- a touch of the next region failed: by its volume's fault, its damage or want of memory
+abbrev pub FailsToTouch : {A : Type 0} → ℕ → Events → Result A DeskFault → Type 0
+FailsToTouch n events (Ok a) = ⊥
+FailsToTouch n events (Err (faults.Volume v)) = IsNext n events v
+FailsToTouch n events (Err (faults.Full v)) = ⊥
+FailsToTouch n events (Err (faults.Damaged v offset)) = IsNext n events v
+FailsToTouch n events (Err faults.OutOfMemory) = (v : ℕ) × IsNext n events v
 
 -- All regions are touched in order, and then the request's step is made; or a touch fails.
-pub record IsTurn (P : ℕ → History → Type 0) (n : ℕ) (room : ℕ → ℕ) (before : Events) (request : Request) (result : Result Answer DeskFault) (events : Events) : Type 0 where
+pub record IsTurn (P : ℕ → History → Type 0) (n : ℕ) (room : ℕ → ℕ) (before : Events) (request : Request) (result : Result Answer DeskFault)
+    (events : Events) : Type 0 where
   pub touched : Events
   pub rest : Events
   pub parts : events ≡ rest ++ touched
   pub touches : AreTouched P n before touched
-  pub steps : (AreKnown n (touched ++ before) × Steps n room (touched ++ before) request rest result) ⊎ ((rest ≡ []) × FailsToTouch result)
+  pub steps : (AreKnown n (touched ++ before) × Steps n room (touched ++ before) request rest result)
+      ⊎ ((rest ≡ []) × FailsToTouch n (touched ++ before) result)
 
 -- what a volume's bytes stand for
 abbrev pub AsRead : ℕ → Outside → ℕ → History → Type 0
@@ -83,23 +113,36 @@ IsDamage n c (Err (faults.Full v)) = Unit {0}
 IsDamage n c (Err (faults.Damaged v offset)) = DamagedAt n v offset (c.volume v) × ((k : History) → StandsFor n v k (c.volume v) → ⊥)
 IsDamage n c (Err faults.OutOfMemory) = Unit {0}
 
+-- a touch of this region failed
+abbrev pub FailsAt : {A : Type 0} → ℕ → Result A DeskFault → Type 0
+FailsAt r (Ok a) = ⊥
+FailsAt r (Err (faults.Volume v)) = v ≡ r
+FailsAt r (Err (faults.Full v)) = ⊥
+FailsAt r (Err (faults.Damaged v offset)) = v ≡ r
+FailsAt r (Err faults.OutOfMemory) = Unit {0}
+
 -- The regions were touched in order, up to the first fault.
-pub record Touches (before : Events) (a b : List Store) (old new : Outside) : Type 0 where
+pub record Touches (before : Events) (result : Result (Unit {0}) DeskFault) (a b : List Store) (old new : Outside) : Type 0 where
   pub touched : Events
   pub touches : AreTouched (AsRead (length a) old) (length a) before touched
   pub keeps : Keeps (touched ++ before) b new
   pub looks : Looks old new
   pub happens : Happens (length a) touched old new
+  pub fails : OnErr result (FailsToTouch (length a) (touched ++ before) result)
 
 -- A command was committed to a region of this history, or not.
 abbrev pub CommitsOne : Events → ℕ → ℕ → History → Command → ℕ → Result Committed DeskFault → List Store → Outside → Outside → Type 0
 CommitsOne before n r h c room (Ok (committed.At index)) b old new =
-    (index ≡ length h + 1) × (refusal n r h c ≡ None) × (length_with r h c ≤ room) × Keeps (found r (c ∷ h) ∷ began r c ∷ before) b new × Happens n (found r (c ∷ h) ∷ began r c ∷ []) old new
+    (index ≡ length h + 1) × (refusal n r h c ≡ None) × (length_with r h c ≤ room) × Keeps (found r (c ∷ h) ∷ began r c ∷ before) b new
+    × Happens n (found r (c ∷ h) ∷ began r c ∷ []) old new
 CommitsOne before n r h c room (Ok (committed.Refused why)) b old new = (refusal n r h c ≡ Some why) × Keeps before b new × Happens n [] old new
-CommitsOne before n r h c room (Err (faults.Volume v)) b old new = (v ≡ r) × (refusal n r h c ≡ None) × Keeps (began r c ∷ before) b new × Happens n (began r c ∷ []) old new
-CommitsOne before n r h c room (Err (faults.Full v)) b old new = (v ≡ r) × (refusal n r h c ≡ None) × (room < length_with r h c) × Keeps before b new × Happens n [] old new
+CommitsOne before n r h c room (Err (faults.Volume v)) b old new =
+    (v ≡ r) × (refusal n r h c ≡ None) × (length_with r h c ≤ room) × Keeps (began r c ∷ before) b new × Happens n (began r c ∷ []) old new
+CommitsOne before n r h c room (Err (faults.Full v)) b old new = (v ≡ r) × (refusal n r h c ≡ None) × (room < length_with r h c) × Keeps before b new
+    × Happens n [] old new
 CommitsOne before n r h c room (Err (faults.Damaged v offset)) b old new = ⊥
-CommitsOne before n r h c room (Err faults.OutOfMemory) b old new = (refusal n r h c ≡ None) × Keeps (began r c ∷ before) b new × Happens n (began r c ∷ []) old new
+CommitsOne before n r h c room (Err faults.OutOfMemory) b old new = (refusal n r h c ≡ None) × Keeps (began r c ∷ before) b new
+    × Happens n (began r c ∷ []) old new
 
 -- A step was made, all regions being read: whole, or its commit is in doubt, or nothing was done.
 pub record Came (before : Events) (s : Step) (result : Result Answer DeskFault) (room : ℕ → ℕ) (a b : List Store) (old new : Outside) : Type 0 where
@@ -117,7 +160,8 @@ abbrev pub Makes : Events → ℕ → Command → Reply → Result Answer DeskFa
 Makes before r c reply result room a b old new = Came before (made_of (length a) (history_at before) (Commits r c reply)) result room a b old new
 
 -- The desk did this at a request.
-pub record Responds (before : Events) (request : Request) (result : Result Answer DeskFault) (room : ℕ → ℕ) (a b : List Store) (old new : Outside) : Type 0 where
+pub record Responds (before : Events) (request : Request) (result : Result Answer DeskFault) (room : ℕ
+    → ℕ) (a b : List Store) (old new : Outside) : Type 0 where
   pub events : Events
   pub turn : IsTurn (AsRead (length a) old) (length a) room before request result events
   pub keeps : Keeps (events ++ before) b new

@@ -14,10 +14,10 @@ use Rattle.s3r_record.specs.declared.command.Command.TheVariants as command
 use Rattle.s3r_record.specs.Spelling.{IsCommand, fits_record}
 use Rattle.s3r_versions.specs.Lookup.{find_version, latest}
 use Rattle.s3r_versions.specs.Listing.{is_place_there, listing}
-use Rattle.s3r_versions.specs.declared.listing.Place.{Place}
+use Rattle.s3r_versions.specs.declared.listing.ListPosition.{ListPosition}
 use Rattle.s3r_history.specs.Words.{Name, History}
 use Rattle.s3r_history.specs.Past.{Entry}
-use Rattle.s3r_history.specs.Told.{Told, told}
+use Rattle.s3r_history.specs.BucketView.{BucketView, told}
 use Rattle.s3r_history.specs.Accepts.{refusal}
 use Rattle.s3r_history.specs.declared.replication.Replication.{Replication}
 use Rattle.s3r_history.specs.declared.refusal.Refusal.{Refusal}
@@ -41,38 +41,38 @@ Histories = ℕ → History
 
 -- what each region tells of a bucket's name
 abbrev pub Views : Type 0
-Views = ℕ → Name → Option Told
+Views = ℕ → Name → Option BucketView
 
 abbrev pub refuses : Refusal → Plan
 refuses why = Shows (answer.Refused why)
 
 -- the region that has a bucket, and what it tells of it
-pub record Home : Type 0 where
+pub record BucketLocation : Type 0 where
   pub region : ℕ
-  pub told : Told
+  pub told : BucketView
 
-abbrev pub or_home : ℕ → Option Told → Option Home → Option Home
-or_home r None other = other
-or_home r (Some t) other = Some (record { region = r; told = t })
+abbrev pub or_location : ℕ → Option BucketView → Option BucketLocation → Option BucketLocation
+or_location r None other = other
+or_location r (Some t) other = Some (record { region = r; told = t })
 
 -- the first of so many regions, from r on, that has the bucket
-abbrev pub home_from : ℕ → ℕ → Views → Name → Option Home
-home_from r zero views b = None
-home_from r (suc n) views b = or_home r (views r b) (home_from (r + 1) n views b)
+abbrev pub location_from : ℕ → ℕ → Views → Name → Option BucketLocation
+location_from r zero views b = None
+location_from r (suc n) views b = or_location r (views r b) (location_from (r + 1) n views b)
 
 -- the least of n regions that has the bucket
-abbrev pub home : ℕ → Views → Name → Option Home
-home n views b = home_from 0 n views b
+abbrev pub location : ℕ → Views → Name → Option BucketLocation
+location n views b = location_from 0 n views b
 
-abbrev pub at_home : (Home → Plan) → Option Home → Plan
-at_home plan None = refuses refusals.NoSuchBucket
-at_home plan (Some h) = plan h
+abbrev pub at_location : (BucketLocation → Plan) → Option BucketLocation → Plan
+at_location plan None = refuses refusals.NoSuchBucket
+at_location plan (Some h) = plan h
 
-abbrev pub commits_at : Home → Command → Reply → Plan
+abbrev pub commits_at : BucketLocation → Command → Reply → Plan
 commits_at h c reply = Commits h.region c reply
 
 -- the version of the key that is named, or the latest
-abbrev pub sought : Name → Option VersionId → Told → Option Entry
+abbrev pub sought : Name → Option VersionId → BucketView → Option Entry
 sought key None at = latest key at.rows
 sought key (Some id) at = find_version key id at.rows
 
@@ -91,7 +91,7 @@ object_of version None = Err (missing version)
 object_of version (Some row) = if row.marker then Err (hidden version) else Ok row
 
 -- the version that is asked for, unless it isn't there or is a marker
-abbrev pub object_at : Name → Option VersionId → Home → Result Entry Refusal
+abbrev pub object_at : Name → Option VersionId → BucketLocation → Result Entry Refusal
 object_at key version h = object_of version (sought key version h.told)
 
 abbrev pub with_object : (Entry → Plan) → Result Entry Refusal → Plan
@@ -99,47 +99,50 @@ with_object plan (Err why) = refuses why
 with_object plan (Ok row) = plan row
 
 -- under Object Lock alone
-abbrev pub if_locked : Home → Plan → Plan
+abbrev pub if_locked : BucketLocation → Plan → Plan
 if_locked h plan = if h.told.locked then plan else refuses refusals.LockNeeded
 
 -- a new bucket, in the region that is asked for where that is there, and no region has its name
-abbrev pub creation : ℕ → Name → Bool → Option Home → Option ℕ → Plan
+abbrev pub creation : ℕ → Name → Bool → Option BucketLocation → Option ℕ → Plan
 creation n name locked there None = refuses refusals.InvalidLocation
 creation n name locked there (Some r) =
-    if nat_lt r n then (if is_some there then refuses refusals.BucketAlreadyExists else Commits r (command.CreateBucket name locked) (Is answer.Done)) else refuses refusals.InvalidLocation
+    if nat_lt r n then (if is_some there then refuses refusals.BucketAlreadyExists else Commits r (command.CreateBucket name locked) (Is answer.Done))
+    else refuses refusals.InvalidLocation
 
-abbrev pub page : List ℕ → Option Place → ℕ → Told → Plan
-page prefix after limit at = if is_place_there after at.rows then Shows (answer.Listing (listing prefix after limit at.rows)) else refuses refusals.NoSuchVersion
+abbrev pub page : List ℕ → Option ListPosition → ℕ → BucketView → Plan
+page prefix after limit at = if is_place_there after at.rows then Shows
+    (answer.Listing (listing prefix after limit at.rows)) else refuses refusals.NoSuchVersion
 
 -- a version with its body, or a marker in its place
 abbrev pub object_shown : Option VersionId → Bool → Entry → Plan
-object_shown version locked row = if row.marker then Shows (answer.MarkerThere row.id (is_some version)) else Shows (answer.Object row.id row.class locked row.hold row.body)
+object_shown version locked row = if row.marker then Shows (answer.MarkerThere row.id (is_some version)) else Shows
+    (answer.Object row.id row.class locked row.hold row.body)
 
 abbrev pub shown : Option VersionId → Bool → Option Entry → Plan
 shown version locked None = refuses (missing version)
 shown version locked (Some row) = object_shown version locked row
 
 -- a version is removed where it is there
-abbrev pub removal : Home → Name → Name → VersionId → Option Entry → Plan
+abbrev pub removal : BucketLocation → Name → Name → VersionId → Option Entry → Plan
 removal h b key id None = Shows (answer.Gone (Some id) false)
 removal h b key id (Some row) = commits_at h (command.Remove b key id) (Is (answer.Gone (Some id) row.marker))
 
-abbrev pub deletion : Name → Name → Option VersionId → Home → Plan
+abbrev pub deletion : Name → Name → Option VersionId → BucketLocation → Plan
 deletion b key None h = commits_at h (command.Marker b key) Marked
 deletion b key (Some id) h = removal h b key id (find_version key id h.told.rows)
 
 abbrev pub tags_reply : Bool → VersionId → Reply
 tags_reply gone id = if gone then Is (answer.Gone (Some id) false) else Is (answer.Written id)
 
--- ---- replication, where each name has this home
+-- ---- replication, where each name has this location
 
 -- what is wrong with a destination
-abbrev pub kind_there : Option Home → Option Kind
+abbrev pub kind_there : Option BucketLocation → Option Kind
 kind_there None = Some kind.NoDestination
 kind_there (Some h) = if h.told.enabled then None else Some kind.DestinationNotVersioned
 
 -- what is wrong with a rule of the bucket b: its destination is b itself, or isn't there, or its versioning is Suspended
-abbrev pub wrong_rule : (Name → Option Home) → Name → Rule → Option Kind
+abbrev pub wrong_rule : (Name → Option BucketLocation) → Name → Rule → Option Kind
 wrong_rule at b rule = if bytes_eq rule.bucket b then Some kind.SameBucket else kind_there (at rule.bucket)
 
 abbrev pub or_wrong : ℕ → Option Kind → Option Refusal → Option Refusal
@@ -152,22 +155,22 @@ first_wrong wrong k [] = None
 first_wrong wrong k (rule ∷ rules) = or_wrong k (wrong rule) (first_wrong wrong (k + 1) rules)
 
 -- why the bucket b can't have the configuration
-abbrev pub not_taken : (Name → Option Home) → Name → List Rule → Home → Option Refusal
+abbrev pub not_taken : (Name → Option BucketLocation) → Name → List Rule → BucketLocation → Option Refusal
 not_taken at b rules h = if h.told.enabled then first_wrong (wrong_rule at b) 1 rules else Some refusals.InvalidBucketState
 
-abbrev pub region_of : Option Home → ℕ
+abbrev pub region_of : Option BucketLocation → ℕ
 region_of None = 0
 region_of (Some h) = h.region
 
 -- the region of each rule's destination
-abbrev pub regions_of : (Name → Option Home) → List Rule → List ℕ
+abbrev pub regions_of : (Name → Option BucketLocation) → List Rule → List ℕ
 regions_of at rules = map (λ (rule : Rule). region_of (at rule.bucket)) rules
 
 abbrev pub unless_refused : Plan → Option Refusal → Plan
 unless_refused plan None = plan
 unless_refused plan (Some why) = refuses why
 
-abbrev pub replication : (Name → Option Home) → Name → List Rule → Home → Plan
+abbrev pub replication : (Name → Option BucketLocation) → Name → List Rule → BucketLocation → Plan
 replication at b rules h = unless_refused (commits_at h (command.SetReplication b rules (regions_of at rules)) (Is answer.Done)) (not_taken at b rules h)
 
 abbrev pub configuration : Option Replication → Plan
@@ -175,31 +178,37 @@ configuration None = refuses refusals.NoReplication
 configuration (Some r) = Shows (answer.Configuration r.config)
 
 -- a configuration is taken away where there is one
-abbrev pub dropping : Name → Home → Option Replication → Plan
+abbrev pub dropping : Name → BucketLocation → Option Replication → Plan
 dropping b h None = Shows (answer.Gone None false)
 dropping b h (Some r) = commits_at h (command.DropReplication b) (Is (answer.Gone None false))
 
 -- ---- each request
 
 abbrev pub plan : ℕ → Views → Request → Plan
-plan n views (request.CreateBucket name region locked) = creation n name locked (home n views name) region
-plan n views (request.HeadBucket name) = at_home (λ h. Shows answer.Done) (home n views name)
-plan n views (request.DeleteBucket name) = at_home (λ h. commits_at h (command.DeleteBucket name) (Is (answer.Gone None false))) (home n views name)
-plan n views (request.PutVersioning name enabled) = at_home (λ h. commits_at h (command.SetVersioning name enabled) (Is answer.Done)) (home n views name)
-plan n views (request.GetVersioning name) = at_home (λ h. Shows (answer.Versioning h.told.enabled)) (home n views name)
-plan n views (request.PutReplication name config) = at_home (replication (home n views) name config) (home n views name)
-plan n views (request.GetReplication name) = at_home (λ h. configuration h.told.config) (home n views name)
-plan n views (request.DeleteReplication name) = at_home (λ h. dropping name h h.told.config) (home n views name)
-plan n views (request.ListVersions name prefix after limit) = at_home (λ h. page prefix after limit h.told) (home n views name)
-plan n views (request.PutObject b key body tags hold class) = at_home (λ h. commits_at h (command.Put b key tags hold class body) Written) (home n views b)
-plan n views (request.GetObject b key version) = at_home (λ h. shown version h.told.locked (sought key version h.told)) (home n views b)
-plan n views (request.DeleteObject b key version) = at_home (deletion b key version) (home n views b)
+plan n views (request.CreateBucket name region locked) = creation n name locked (location n views name) region
+plan n views (request.HeadBucket name) = at_location (λ h. Shows answer.Done) (location n views name)
+plan n views (request.DeleteBucket name) = at_location (λ h. commits_at h (command.DeleteBucket name) (Is (answer.Gone None false))) (location n views name)
+plan n views (request.PutVersioning name enabled) = at_location (λ h. commits_at h (command.SetVersioning name enabled) (Is answer.Done))
+    (location n views name)
+plan n views (request.GetVersioning name) = at_location (λ h. Shows (answer.Versioning h.told.enabled)) (location n views name)
+plan n views (request.PutReplication name config) = at_location (replication (location n views) name config) (location n views name)
+plan n views (request.GetReplication name) = at_location (λ h. configuration h.told.config) (location n views name)
+plan n views (request.DeleteReplication name) = at_location (λ h. dropping name h h.told.config) (location n views name)
+plan n views (request.ListVersions name prefix after limit) = at_location (λ h. page prefix after limit h.told) (location n views name)
+plan n views (request.PutObject b key body tags hold class) = at_location (λ h. commits_at h (command.Put b key tags hold class body) Written)
+    (location n views b)
+plan n views (request.GetObject b key version) = at_location (λ h. shown version h.told.locked (sought key version h.told)) (location n views b)
+plan n views (request.DeleteObject b key version) = at_location (deletion b key version) (location n views b)
 plan n views (request.PutTags b key version tags gone) =
-    at_home (λ h. with_object (λ row. commits_at h (command.SetTags b key row.id tags) (tags_reply gone row.id)) (object_at key version h)) (home n views b)
-plan n views (request.GetTags b key version) = at_home (λ h. with_object (λ row. Shows (answer.TagSet row.tags)) (object_at key version h)) (home n views b)
+    at_location (λ h. with_object (λ row. commits_at h (command.SetTags b key row.id tags) (tags_reply gone row.id)) (object_at key version h))
+    (location n views b)
+plan n views (request.GetTags b key version) = at_location (λ h. with_object (λ row. Shows (answer.TagSet row.tags)) (object_at key version h))
+    (location n views b)
 plan n views (request.PutHold b key version hold) =
-    at_home (λ h. if_locked h (with_object (λ row. commits_at h (command.SetHold b key row.id hold) (Is (answer.Written row.id))) (object_at key version h))) (home n views b)
-plan n views (request.GetHold b key version) = at_home (λ h. if_locked h (with_object (λ row. Shows (answer.Hold row.hold)) (object_at key version h))) (home n views b)
+    at_location (λ h. if_locked h (with_object (λ row. commits_at h (command.SetHold b key row.id hold) (Is (answer.Written row.id)))
+    (object_at key version h))) (location n views b)
+plan n views (request.GetHold b key version) = at_location (λ h. if_locked h (with_object (λ row. Shows (answer.Hold row.hold)) (object_at key version h)))
+    (location n views b)
 
 -- ---- the step
 
@@ -269,15 +278,22 @@ IsRequest (request.GetHold b key version) = Unit {0}
 abbrev pub after_commit : Commit → Histories → Histories
 after_commit commit at r = if r == commit.region then commit.command ∷ at r else at r
 
+-- the histories with all of them
+abbrev pub after_commits : List Commit → Histories → Histories
+after_commits [] at = at
+after_commits (commit ∷ commits) at = after_commits commits (after_commit commit at)
+
 -- what happens where the commits are made, the newest first
 abbrev pub made : Histories → List Commit → Events
 made at [] = []
-made at (commit ∷ commits) = made (after_commit commit at) commits ++ found commit.region (commit.command ∷ at commit.region) ∷ began commit.region commit.command ∷ []
+made at (commit ∷ commits) = made (after_commit commit at) commits ++ found commit.region
+    (commit.command ∷ at commit.region) ∷ began commit.region commit.command ∷ []
 
 -- the commits fit the rooms of their volumes
 abbrev pub FitRooms : (ℕ → ℕ) → Histories → List Commit → Type 0
 FitRooms room at [] = Unit {0}
-FitRooms room at (commit ∷ commits) = (length_with commit.region (at commit.region) commit.command ≤ room commit.region) × FitRooms room (after_commit commit at) commits
+FitRooms room at (commit ∷ commits) = (length_with commit.region (at commit.region) commit.command ≤ room commit.region)
+    × FitRooms room (after_commit commit at) commits
 
 -- a command that is planned meets its fields' rules, and goes to one of n regions
 abbrev pub FitsIn : ℕ → Plan → Type 0

@@ -51,7 +51,8 @@ fn make<W: World>(
     requires tied { IsTrue W.tells → AreTied stores.old.items (W.outside world.old) }
     requires read { AreRead stores.old.items }
     requires fits { IsCommand command }
-    ensures told { IsTrue W.tells → (before : Events) → Keeps before stores.old.items (W.outside world.old) → Makes before region command reply result (W.shape world.old).room stores.old.items stores.new.items (W.outside world.old) (W.outside world.new) }
+    ensures told { IsTrue W.tells → (before : Events) → Keeps before stores.old.items (W.outside world.old)
+        → Makes before region command reply result (W.shape world.old).room stores.old.items stores.new.items (W.outside world.old) (W.outside world.new) }
     ensures count { length stores.new.items ≡ length stores.old.items }
     ensures numbered { AreNumbered stores.new.items }
     ensures cause { HasCause (length stores.old.items) result (W.faults world.old) (W.faults world.new) }
@@ -88,7 +89,8 @@ pub fn answer<W: World>(
     requires tied { IsTrue W.tells → AreTied stores.old.items (W.outside world.old) }
     requires read { AreRead stores.old.items }
     requires fits { IsRequest request }
-    ensures told { IsTrue W.tells → (before : Events) → Keeps before stores.old.items (W.outside world.old) → Answers before request result (W.shape world.old).room stores.old.items stores.new.items (W.outside world.old) (W.outside world.new) }
+    ensures told { IsTrue W.tells → (before : Events) → Keeps before stores.old.items (W.outside world.old)
+        → Answers before request result (W.shape world.old).room stores.old.items stores.new.items (W.outside world.old) (W.outside world.new) }
     ensures count { length stores.new.items ≡ length stores.old.items }
     ensures numbered { AreNumbered stores.new.items }
     ensures cause { HasCause (length stores.old.items) result (W.faults world.old) (W.faults world.new) }

@@ -53,7 +53,8 @@ impl Desk {
         requires numbered { AreNumbered self.old.stores.items }
         requires tied { IsTrue W.tells → AreTied self.old.stores.items (W.outside world.old) }
         requires fits { IsRequest request }
-        ensures told { IsTrue W.tells → (before : Events) → Keeps before self.old.stores.items (W.outside world.old) → Responds before request result (W.shape world.old).room self.old.stores.items self.new.stores.items (W.outside world.old) (W.outside world.new) }
+        ensures told { IsTrue W.tells → (before : Events) → Keeps before self.old.stores.items (W.outside world.old)
+            → Responds before request result (W.shape world.old).room self.old.stores.items self.new.stores.items (W.outside world.old) (W.outside world.new) }
         ensures count { length self.new.stores.items ≡ length self.old.stores.items }
         ensures numbered { AreNumbered self.new.stores.items }
         ensures cause { HasCause (length self.old.stores.items) result (W.faults world.old) (W.faults world.new) }

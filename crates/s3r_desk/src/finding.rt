@@ -1,10 +1,10 @@
 //! The region that has a bucket, found by its name.
 ghost use Rattle.std.specs.Prelude.{◌≡◌, ◌<◌, IsTrue, IfSome, option_copied, option_map, length};
 ghost use Rattle.s3r_region.specs.Contents.{have_ids};
-ghost use Rattle.s3r_desk.specs.Steps.{home};
-ghost use Rattle.s3r_desk.specs.Lookups.{bucket_in, views_of, seen_home};
+ghost use Rattle.s3r_desk.specs.Steps.{location};
+ghost use Rattle.s3r_desk.specs.Lookups.{bucket_in, views_of, seen_location};
 
-use crate::home::Home;
+use crate::bucket_location::BucketLocation;
 use s3r_names::BucketName;
 use s3r_region::Bucket;
 use s3r_store::Store;
@@ -18,13 +18,13 @@ fn bucket_in<'a>(store: &'a Store, name: &BucketName) -> Option<&'a Bucket>
 }
 
 /// The least region that has the bucket.
-pub fn home_of<'a>(stores: &'a [Store], name: &BucketName) -> Option<Home<'a>>
-    ensures least { option_map seen_home result ≡ home (length stores.now) (views_of stores.now) name.now }
+pub fn location_of<'a>(stores: &'a [Store], name: &BucketName) -> Option<BucketLocation<'a>>
+    ensures least { option_map seen_location result ≡ location (length stores.now) (views_of stores.now) name.now }
     ensures within { IfSome result (λ h. h.region < length stores.now) }
 {
     for region in 0..stores.len() {
         if let Some(bucket) = bucket_in(&stores[region], name) {
-            return Some(Home { region, bucket });
+            return Some(BucketLocation { region, bucket });
         }
     }
     None

@@ -2,20 +2,26 @@
 #![tactic(auto)]
 
 mod answering;
+mod bucket;
+mod bucket_location;
 mod committing;
 mod desk;
 mod fault;
 mod finding;
-mod home;
 mod laws;
+mod legal_hold;
+mod listing;
+mod object;
 mod planning;
-mod replicating;
+mod replication;
 mod request;
+mod tagging;
 mod touching;
+mod versioning;
 
 pub use desk::Desk;
 pub use fault::DeskFault;
 pub use laws::no_region_is_missing;
 pub use request::{Answer, Request};
 pub use s3r_history::Refusal;
-pub use s3r_versions::{Entries, Listed, Listing, Place};
+pub use s3r_versions::{Entries, ListPosition, Listed, Listing};

@@ -2,7 +2,7 @@
 use s3r_history::Refusal;
 use s3r_names::{BucketName, Bytes, ClassName, Key, TagSet, Text, VersionId};
 use s3r_rules::Config;
-use s3r_versions::{Listing, Place};
+use s3r_versions::{ListPosition, Listing};
 
 /// A request, read and not looked at further. A version that isn't named is the latest of the key. A body has at most
 /// 4,194,304 bytes.
@@ -46,7 +46,7 @@ pub enum Request {
     ListVersions {
         name: BucketName,
         prefix: Text,
-        after: Option<Place>,
+        after: Option<ListPosition>,
         limit: usize,
     },
     /// A new version of an object.

@@ -5,7 +5,7 @@ ghost use Rattle.s3r_history.specs.Words.{History};
 ghost use Rattle.s3r_store.specs.Knows.{Ties, Holds};
 ghost use Rattle.s3r_desk.specs.Events.{Events};
 ghost use Rattle.s3r_desk.specs.Keeping.{Keeps, AreNumbered, AreTied, AreRead};
-ghost use Rattle.s3r_desk.specs.Responds.{Touches, FailsToTouch, IsDamage, HasCause};
+ghost use Rattle.s3r_desk.specs.Responds.{Touches, FailsAt, IsDamage, HasCause};
 
 use crate::DeskFault;
 use s3r_store::{Store, StoreFault};
@@ -24,7 +24,7 @@ fn touch_one<W: World>(alloc: Global, world: &mut W, store: &mut Store) -> Resul
     ensures unread { OnErr result (store.new.held ≡ None) }
     ensures v { store.new.v ≡ store.old.v }
     ensures regions { store.new.regions ≡ store.old.regions }
-    ensures fails { OnErr result (FailsToTouch result) }
+    ensures fails { OnErr result (FailsAt store.old.v result) }
     ensures damage { IsTrue W.tells → IsDamage store.old.regions (W.outside world.old).as_read result }
     ensures cause { HasCause (store.old.v + 1) result (W.faults world.old) (W.faults world.new) }
     ensures counts { NoneFalls (W.faults world.old) (W.faults world.new) }
@@ -54,12 +54,12 @@ pub fn touch_all<W: World>(
     requires few { length stores.old.items ≤ 8 }
     requires numbered { AreNumbered stores.old.items }
     requires tied { IsTrue W.tells → AreTied stores.old.items (W.outside world.old) }
-    ensures told { IsTrue W.tells → (before : Events) → Keeps before stores.old.items (W.outside world.old) → Touches before stores.old.items stores.new.items (W.outside world.old) (W.outside world.new) }
+    ensures told { IsTrue W.tells → (before : Events) → Keeps before stores.old.items (W.outside world.old)
+        → Touches before result stores.old.items stores.new.items (W.outside world.old) (W.outside world.new) }
     ensures tied { IsTrue W.tells → AreTied stores.new.items (W.outside world.new) }
     ensures read { OnOk result (AreRead stores.new.items) }
     ensures count { length stores.new.items ≡ length stores.old.items }
     ensures numbered { AreNumbered stores.new.items }
-    ensures fails { OnErr result (FailsToTouch result) }
     ensures damage { IsTrue W.tells → IsDamage (length stores.old.items) (W.outside world.old).as_read result }
     ensures cause { HasCause (length stores.old.items) result (W.faults world.old) (W.faults world.new) }
     ensures counts { NoneFalls (W.faults world.old) (W.faults world.new) }

@@ -6,6 +6,7 @@ use crate::requests::request_text;
 use crate::row::{RowFault, first_cell};
 use s3r_api::{framing_problem, is_head, to_request};
 use s3r_http::{Buffer, Field, HttpFault, RawRequest, has_more, read_request};
+use s3r_routes::Routes;
 use s3r_world::{MemoryWorld, Side};
 use std::alloc::{AllocError, Global};
 
@@ -14,7 +15,7 @@ pub const WHOLE: usize = 8_388_608;
 
 /// A request as it was framed.
 fn framed_text(alloc: Global, raw: &RawRequest) -> Result<String, AllocError> {
-    let target = escaped(alloc, raw.target.as_slice())?;
+    let target = escaped(alloc, raw.target.as_bytes())?;
     let body = escaped(alloc, raw.body.as_slice())?;
     let lines = raw.fields.as_slice().len();
     let last = if raw.last { ", last" } else { "" };
@@ -43,7 +44,8 @@ fn lines_text(alloc: Global, raw: &RawRequest) -> Result<String, AllocError> {
 
 /// The request of the desk that it is, or the problem.
 fn asked_text(alloc: Global, raw: &RawRequest) -> Result<String, AllocError> {
-    let request = to_request(alloc, raw);
+    let routes = Routes::new(alloc)?;
+    let request = to_request(alloc, &routes, raw);
     let text = match &request {
         Ok(request) => request_text(alloc, request),
         Err(problem) => format!(in alloc; "{problem:?}"),
@@ -54,7 +56,8 @@ fn asked_text(alloc: Global, raw: &RawRequest) -> Result<String, AllocError> {
 
 /// The answer to what is no request of the desk.
 fn refused_text(alloc: Global, raw: &RawRequest) -> Result<String, AllocError> {
-    let request = to_request(alloc, raw);
+    let routes = Routes::new(alloc)?;
+    let request = to_request(alloc, &routes, raw);
     let text = match &request {
         Ok(_) => String::from_str(alloc, "no problem"),
         Err(problem) => problem_text(alloc, *problem, is_head(raw), raw.last),

@@ -3,7 +3,7 @@
 use crate::escape::unescaped;
 use crate::framing::{WHOLE, taken};
 use crate::row::{RowFault, first_cell};
-use s3r_desk::{Place, Request};
+use s3r_desk::{ListPosition, Request};
 use s3r_names::VersionId;
 use std::alloc::{AllocError, Global};
 
@@ -15,7 +15,7 @@ fn index_of(version: &Option<VersionId>) -> u64 {
     }
 }
 
-fn place_text(alloc: Global, after: &Option<Place>) -> Result<String, AllocError> {
+fn place_text(alloc: Global, after: &Option<ListPosition>) -> Result<String, AllocError> {
     match after {
         Some(place) => format!(in alloc; "{} {}", place.key.as_str(), index_of(&place.id)),
         None => String::from_str(alloc, "-"),

@@ -7,9 +7,11 @@ use Rattle.s3r_rules.specs.declared.rule.Rule.{Rule}
 use Rattle.s3r_history.specs.Buckets.{bucket, configuration}
 use Rattle.s3r_history.specs.Past.{Entry, clock}
 use Rattle.s3r_history.specs.Deeds.{deeds}
+use Rattle.s3r_names.specs.declared.stamp.Stamp.{Stamp}
 use Rattle.s3r_names.specs.declared.tags.Tag.{Tag}
 use Rattle.s3r_names.specs.declared.version.VersionId.{VersionId}
-use Rattle.s3r_history.specs.Rows.{rows, latest, removed}
+use Rattle.s3r_history.specs.Rows.{rows, latest, removed, greatest}
+use Rattle.s3r_history.specs.Writes.{tags_written, hold_written}
 use Rattle.s3r_history.specs.declared.refusal.Refusal.TheVariants as refusals
 use Rattle.s3r_history.specs.Accepts.{refusal}
 
@@ -125,14 +127,34 @@ the_birth : bucket born_again (codes "abc") ≡ Some (record { birth = 5; locked
 the_birth = refl
 
 -- tags and hold are those of the greatest stamp
+abbrev stamp : ℕ → ℕ → Stamp
+stamp n index = record { n = n; region = 0; index = index }
+
 abbrev tag : List ℕ → Tag
 tag key = record { key = key; value = [] }
 
 abbrev two_tags : History
-two_tags = command.SetTags (codes "abc") (codes "a") first_id (tag (codes "y") ∷ []) ∷ command.SetTags (codes "abc") (codes "a") first_id (tag (codes "x") ∷ []) ∷ one_put
+two_tags = command.SetTags (codes "abc") (codes "a") first_id (tag (codes "y") ∷ []) ∷ command.SetTags (codes "abc") (codes "a") first_id
+    (tag (codes "x") ∷ []) ∷ one_put
 
-the_tags : latest (deeds 0 two_tags) (codes "abc") (codes "a") ≡ Some (record (entry 1 2 (codes "hi") 2) { tags = tag (codes "y") ∷ []; tags_stamp = record { n = 3; region = 0; index = 4 } })
+the_tags : latest (deeds 0 two_tags) (codes "abc") (codes "a") ≡ Some (record
+    (entry 1 2 (codes "hi") 2) { tags = tag (codes "y") ∷ []; tags_stamp = record { n = 3; region = 0; index = 4 } })
 the_tags = refl
+
+-- all that was written of them: as they were put, and as they were set
+all_tags : tags_written (deeds 0 two_tags) (codes "abc") (codes "a") first_id
+    ≡ (stamp 3 4, tag (codes "y") ∷ []) ∷ (stamp 2 3, tag (codes "x") ∷ []) ∷ (stamp 1 2, []) ∷ []
+all_tags = refl
+
+tags_of_another : tags_written (deeds 0 two_tags) (codes "abc") (codes "a") (record { region = 1; index = 2 }) ≡ []
+tags_of_another = refl
+
+tags_of_a_marker : tags_written (deeds 0 one_marker) (codes "abc") (codes "a") (record { region = 0; index = 3 }) ≡ (stamp 2 3, []) ∷ []
+tags_of_a_marker = refl
+
+-- of two writes under one stamp the first stands
+first_stands : greatest (stamp 2 3, true) ((stamp 1 2, true) ∷ (stamp 2 3, false) ∷ []) ≡ (stamp 2 3, true)
+first_stands = refl
 
 no_tags_of_a_marker : refusal 1 0 one_marker (command.SetTags (codes "abc") (codes "a") (record { region = 0; index = 3 }) []) ≡ Some refusals.MethodNotAllowed
 no_tags_of_a_marker = refl
@@ -155,7 +177,18 @@ a_removal = refl
 
 -- a configuration of one rule, to a bucket of region 1
 abbrev one_rule : List Rule
-one_rule = record { id = codes "rule-1"; priority = 0; enabled = true; prefix = []; tags = []; markers = false; bucket = codes "dst"; class = None; replica_modifications = false } ∷ []
+one_rule = record {
+  id = codes "rule-1";
+  priority = 0;
+  enabled = true;
+  prefix = [];
+  tags = [];
+  markers = false;
+  bucket = codes "dst";
+  class =
+      None;
+  replica_modifications = false;
+} ∷ []
 
 abbrev replicate : Command
 replicate = command.SetReplication (codes "abc") one_rule (1 ∷ [])
@@ -206,6 +239,9 @@ under_hold = refl
 
 abbrev hold_off : History
 hold_off = command.SetHold (codes "lkk") (codes "k") first_id false ∷ command.Marker (codes "lkk") (codes "k") ∷ locked
+
+all_holds : hold_written (deeds 0 hold_off) (codes "lkk") (codes "k") first_id ≡ (stamp 3 4, false) ∷ (stamp 1 2, true) ∷ []
+all_holds = refl
 
 after_hold : refusal 1 0 hold_off (command.Remove (codes "lkk") (codes "k") first_id) ≡ None
 after_hold = refl

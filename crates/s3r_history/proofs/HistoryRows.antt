@@ -1,6 +1,5 @@
 -- The rows of a bucket, one command after another.
 use Rattle.std.proofs.Common.{◌≡◌, ℕ, Bool, true, false, cond, not, ◌&&◌, List, [], ◌∷◌, Option, Some, None, map, filter, length, bytes_eq, refl, sym, ap, ◌∙◌}
-use Rattle.std.specs.Prelude.{IfSome}
 use Rattle.std.specs.List.{list_all}
 use Rattle.std.proofs.lemmas.Bool.{and_parts, not-true}
 use Rattle.s3r_names.specs.Stamp.{is_before}
@@ -21,7 +20,7 @@ use Rattle.s3r_history.specs.Buckets.{creates}
 use Rattle.s3r_history.specs.Past.{Entry, Added, Deed, Past, clock}
 use Rattle.s3r_history.specs.Deeds.{deeds, deed, next_stamp, version, marker}
 use Rattle.s3r_history.specs.Rows.{removes, versions, tag_write, hold_write, set_to, at_present, in_order, rows}
-use Rattle.s3r_history.proofs.Versions.{all-filter, kept_by, front, versions-step, versions-birth, is_old, all_old, once-versions, unknown}
+use Rattle.s3r_history.proofs.Versions.{all-filter, kept_by, front, versions-step, versions-birth, is_old, all_old, once-versions, some_of, unknown}
 use Rattle.s3r_history.proofs.Present.{newest_of, written, written-place, present-place, present-front}
 
 -- ---- the listing order
@@ -43,7 +42,8 @@ listed : (vs : List Entry) → has_each_once vs ≡ true → is_listed (in_order
 listed [] once = refl
 listed (v ∷ vs) once =
     let parts = and_parts (list_all (λ (w : Entry). not (is_version v.key v.id w)) vs) (has_each_once vs) once in
-    stays_listed v (in_order vs) (listed vs parts.1) (none-found v.key v.id (in_order vs) (all-in_order (λ (w : Entry). not (is_version v.key v.id w)) vs parts.0))
+    stays_listed v (in_order vs) (listed vs parts.1) (none-found v.key v.id (in_order vs)
+    (all-in_order (λ (w : Entry). not (is_version v.key v.id w)) vs parts.0))
 
 changed : (f : Entry → Entry) (vs : List Entry) → KeepsPlace f → map f (in_order vs) ≡ in_order (map f vs)
 changed f [] keeps = refl
@@ -72,9 +72,11 @@ once-map f keeps (v ∷ vs) =
     same : (u w : Entry) → not (is_version (f u).key (f u).id (f w)) ≡ not (is_version u.key u.id w)
     same u w = rw (keeps.key u, keeps.id u, keeps.key w, keeps.id w) refl
 
-    one : (u : Entry) (ws : List Entry) → list_all (λ (w : Entry). not (is_version (f u).key (f u).id w)) (map f ws) ≡ list_all (λ (w : Entry). not (is_version u.key u.id w)) ws
+    one : (u : Entry) (ws : List Entry) → list_all (λ (w : Entry). not (is_version (f u).key (f u).id w)) (map f ws) ≡ list_all
+        (λ (w : Entry). not (is_version u.key u.id w)) ws
     one u [] = refl
-    one u (w ∷ ws) = ap (λ t. t && list_all (λ (x : Entry). not (is_version (f u).key (f u).id x)) (map f ws)) (same u w) ∙ ap (λ t. not (is_version u.key u.id w) && t) (one u ws)
+    one u (w ∷ ws) = ap (λ t. t && list_all (λ (x : Entry). not (is_version (f u).key (f u).id x)) (map f ws)) (same u w)
+        ∙ ap (λ t. not (is_version u.key u.id w) && t) (one u ws)
 
 abbrev present : Past → Name → List Entry
 present past b = map (at_present past b) (versions past b)
@@ -117,13 +119,10 @@ kept-map b c f keeps (v ∷ vs) = go (not (removes b v.key v.id c)) (same v) (ke
     same u = rw (keeps.key u, keeps.id u) refl
 
     go : (t : Bool) → not (removes b (f v).key (f v).id c) ≡ t → map f (kept_by b c vs) ≡ kept_by b c (map f vs)
-        → map f (cond t (v ∷ kept_by b c vs) (kept_by b c vs)) ≡ cond (not (removes b (f v).key (f v).id c)) (f v ∷ kept_by b c (map f vs)) (kept_by b c (map f vs))
+        → map f (cond t (v ∷ kept_by b c vs) (kept_by b c vs)) ≡ cond (not (removes b (f v).key (f v).id c)) (f v ∷ kept_by b c (map f vs))
+        (kept_by b c (map f vs))
     go true e ih = ap (λ xs. f v ∷ xs) ih ∙ ap (λ t. cond t (f v ∷ kept_by b c (map f vs)) (kept_by b c (map f vs))) (sym e)
     go false e ih = ih ∙ ap (λ t. cond t (f v ∷ kept_by b c (map f vs)) (kept_by b c (map f vs))) (sym e)
-
-some_of : {A : Type 0} {P Q : A → Type 0} (o : Option A) → ((a : A) → P a → Q a) → IfSome o P → IfSome o Q
-some_of None f p = tt
-some_of (Some a) f p = f a p
 
 -- A command that isn't the bucket's creation writes, removes and adds.
 pub rows-step : (r : ℕ) (h : History) (b : Name) (c : Command) → creates b c ≡ false
@@ -131,7 +130,8 @@ pub rows-step : (r : ℕ) (h : History) (b : Name) (c : Command) → creates b c
 rows-step r h b c goes_on =
     ap (λ vs. in_order (map (at_present (d ∷ past) b) vs)) (versions-step b d past goes_on)
     ∙ ap in_order (present-front d past b d.adds (kept_by b c (versions past b)) refl
-    (some_of d.adds (λ (a : Added) new. all-filter (λ (v : Entry). not (is_version a.row.key a.row.id v)) (λ (v : Entry). not (removes b v.key v.id c)) (versions past b) new) (unknown r h b c)))
+    (some_of d.adds (λ (a : Added) new. all-filter (λ (v : Entry). not (is_version a.row.key a.row.id v)) (λ (v : Entry). not (removes b v.key v.id c))
+    (versions past b) new) (unknown r h b c)))
     ∙ order-front b d.adds (map (written b d) (map (at_present past b) (kept_by b c (versions past b))))
     ∙ ap (added b d.adds)
     (ap (λ vs. in_order (map (written b d) vs)) (kept-map b c (at_present past b) (present-place past b) (versions past b))
@@ -154,11 +154,13 @@ kept-all : (b : Name) (c : Command) → ((key : Name) (id : VersionId) → remov
 kept-all b c none [] = refl
 kept-all b c none (row ∷ rs) = ap (λ t. cond (not t) (row ∷ kept_by b c rs) (kept_by b c rs)) (none row.key row.id) ∙ ap (λ xs. row ∷ xs) (kept-all b c none rs)
 
-unwritten : (b : Name) (d : Deed) → ((key : Name) (id : VersionId) → tag_write b key id d.stamp d.command ≡ None) → ((key : Name) (id : VersionId) → hold_write b key id d.stamp d.command ≡ None)
+unwritten : (b : Name) (d : Deed) → ((key : Name) (id : VersionId) → tag_write b key id d.stamp d.command ≡ None)
+    → ((key : Name) (id : VersionId) → hold_write b key id d.stamp d.command ≡ None)
     → (rs : List Entry) → map (written b d) rs ≡ rs
 unwritten b d tags hold [] = refl
 unwritten b d tags hold (row ∷ rs) =
-    ap (λ o. set_to row (newest_of o (row.tags_stamp, row.tags)) (newest_of (hold_write b row.key row.id d.stamp d.command) (row.hold_stamp, row.hold)) ∷ map (written b d) rs) (tags row.key row.id)
+    ap (λ o. set_to row (newest_of o (row.tags_stamp, row.tags)) (newest_of (hold_write b row.key row.id d.stamp d.command) (row.hold_stamp, row.hold)) ∷ map
+    (written b d) rs) (tags row.key row.id)
     ∙ ap (λ o. set_to row (row.tags_stamp, row.tags) (newest_of o (row.hold_stamp, row.hold)) ∷ map (written b d) rs) (hold row.key row.id)
     ∙ ap (λ xs. row ∷ xs) (unwritten b d tags hold rs)
 
@@ -169,29 +171,36 @@ rows-put r h b bucket key tags hold class body =
     let c = command.Put bucket key tags hold class body in
     rows-step r h b c refl
     ∙ ap (λ rs. cond (bytes_eq bucket b) (with_row (version (next_stamp r (deeds r h)) key tags hold class body) rs) rs)
-    (ap (map (written b (deed r (deeds r h) c))) (kept-all b c (λ k i. refl) (rows (deeds r h) b)) ∙ unwritten b (deed r (deeds r h) c) (λ k i. refl) (λ k i. refl) (rows (deeds r h) b))
+    (ap (map (written b (deed r (deeds r h) c))) (kept-all b c (λ k i. refl) (rows (deeds r h) b))
+    ∙ unwritten b (deed r (deeds r h) c) (λ k i. refl) (λ k i. refl) (rows (deeds r h) b))
 
 pub rows-marker : (r : ℕ) (h : History) (b bucket key : Name)
-    → rows (deeds r (command.Marker bucket key ∷ h)) b ≡ cond (bytes_eq bucket b) (with_row (marker (next_stamp r (deeds r h)) key) (rows (deeds r h) b)) (rows (deeds r h) b)
+    → rows (deeds r (command.Marker bucket key ∷ h)) b ≡ cond (bytes_eq bucket b) (with_row (marker (next_stamp r (deeds r h)) key) (rows (deeds r h) b))
+    (rows (deeds r h) b)
 rows-marker r h b bucket key =
     let c = command.Marker bucket key in
     rows-step r h b c refl
     ∙ ap (λ rs. cond (bytes_eq bucket b) (with_row (marker (next_stamp r (deeds r h)) key) rs) rs)
-    (ap (map (written b (deed r (deeds r h) c))) (kept-all b c (λ k i. refl) (rows (deeds r h) b)) ∙ unwritten b (deed r (deeds r h) c) (λ k i. refl) (λ k i. refl) (rows (deeds r h) b))
+    (ap (map (written b (deed r (deeds r h) c))) (kept-all b c (λ k i. refl) (rows (deeds r h) b))
+    ∙ unwritten b (deed r (deeds r h) c) (λ k i. refl) (λ k i. refl) (rows (deeds r h) b))
 
-pub rows-create : (r : ℕ) (h : History) (b name : Name) (locked : Bool) → rows (deeds r (command.CreateBucket name locked ∷ h)) b ≡ cond (bytes_eq name b) [] (rows (deeds r h) b)
+pub rows-create : (r : ℕ) (h : History) (b name : Name) (locked : Bool)
+    → rows (deeds r (command.CreateBucket name locked ∷ h)) b ≡ cond (bytes_eq name b) [] (rows (deeds r h) b)
 rows-create r h b name locked = go (bytes_eq name b) refl
   where
     go : (t : Bool) → bytes_eq name b ≡ t → rows (deeds r (command.CreateBucket name locked ∷ h)) b ≡ cond t [] (rows (deeds r h) b)
     go true e = rows-birth r h b (command.CreateBucket name locked) e
     go false e =
         rows-step r h b (command.CreateBucket name locked) e
-        ∙ ap (map (written b (deed r (deeds r h) (command.CreateBucket name locked)))) (kept-all b (command.CreateBucket name locked) (λ k i. refl) (rows (deeds r h) b))
+        ∙ ap (map (written b (deed r (deeds r h) (command.CreateBucket name locked))))
+        (kept-all b (command.CreateBucket name locked) (λ k i. refl) (rows (deeds r h) b))
         ∙ unwritten b (deed r (deeds r h) (command.CreateBucket name locked)) (λ k i. refl) (λ k i. refl) (rows (deeds r h) b)
 
 -- a command that writes no row, nor removes one, nor adds one
-rows-same : (r : ℕ) (h : History) (b : Name) (c : Command) → creates b c ≡ false → (deed r (deeds r h) c).adds ≡ None → ((key : Name) (id : VersionId) → removes b key id c ≡ false)
-    → ((stamp : Stamp) (key : Name) (id : VersionId) → tag_write b key id stamp c ≡ None) → ((stamp : Stamp) (key : Name) (id : VersionId) → hold_write b key id stamp c ≡ None)
+rows-same : (r : ℕ) (h : History) (b : Name) (c : Command) → creates b c ≡ false → (deed r (deeds r h) c).adds ≡ None
+    → ((key : Name) (id : VersionId) → removes b key id c ≡ false)
+    → ((stamp : Stamp) (key : Name) (id : VersionId) → tag_write b key id stamp c ≡ None)
+    → ((stamp : Stamp) (key : Name) (id : VersionId) → hold_write b key id stamp c ≡ None)
     → rows (deeds r (c ∷ h)) b ≡ rows (deeds r h) b
 rows-same r h b c goes_on adds none tags hold =
     let d = deed r (deeds r h) c in
@@ -206,13 +215,15 @@ rows-delete r h b name = rows-same r h b (command.DeleteBucket name) refl refl (
 pub rows-switch : (r : ℕ) (h : History) (b name : Name) (enabled : Bool) → rows (deeds r (command.SetVersioning name enabled ∷ h)) b ≡ rows (deeds r h) b
 rows-switch r h b name enabled = rows-same r h b (command.SetVersioning name enabled) refl refl (λ k i. refl) (λ s k i. refl) (λ s k i. refl)
 
-pub rows-replicate : (r : ℕ) (h : History) (b name : Name) (config : List Rule) (regions : List ℕ) → rows (deeds r (command.SetReplication name config regions ∷ h)) b ≡ rows (deeds r h) b
+pub rows-replicate : (r : ℕ) (h : History) (b name : Name) (config : List Rule) (regions : List ℕ)
+    → rows (deeds r (command.SetReplication name config regions ∷ h)) b ≡ rows (deeds r h) b
 rows-replicate r h b name config regions = rows-same r h b (command.SetReplication name config regions) refl refl (λ k i. refl) (λ s k i. refl) (λ s k i. refl)
 
 pub rows-drop : (r : ℕ) (h : History) (b name : Name) → rows (deeds r (command.DropReplication name ∷ h)) b ≡ rows (deeds r h) b
 rows-drop r h b name = rows-same r h b (command.DropReplication name) refl refl (λ k i. refl) (λ s k i. refl) (λ s k i. refl)
 
-removes_those : (t : Bool) (key : Name) (id : VersionId) (rs : List Entry) → filter (λ (v : Entry). not (t && is_version key id v)) rs ≡ cond t (without_version key id rs) rs
+removes_those : (t : Bool) (key : Name) (id : VersionId) (rs : List Entry)
+    → filter (λ (v : Entry). not (t && is_version key id v)) rs ≡ cond t (without_version key id rs) rs
 removes_those true key id rs = refl
 removes_those false key id [] = refl
 removes_those false key id (row ∷ rs) = ap (λ xs. row ∷ xs) (removes_those false key id rs)
@@ -230,7 +241,8 @@ tags_set : (stamp : Stamp) (tags : List Tag) (it : Bool) (row : Entry)
     → set_to row (newest_of (cond it (Some (stamp, tags)) None) (row.tags_stamp, row.tags)) (row.hold_stamp, row.hold) ≡ cond it (with_tags stamp tags row) row
 tags_set stamp tags true row = go (is_before row.tags_stamp stamp)
   where
-    go : (t : Bool) → set_to row (cond t (stamp, tags) (row.tags_stamp, row.tags)) (row.hold_stamp, row.hold) ≡ cond t (record row { tags = tags; tags_stamp = stamp }) row
+    go : (t : Bool) → set_to row (cond t (stamp, tags) (row.tags_stamp, row.tags)) (row.hold_stamp, row.hold) ≡ cond t
+        (record row { tags = tags; tags_stamp = stamp }) row
     go true = refl
     go false = refl
 tags_set stamp tags false row = refl
@@ -239,15 +251,18 @@ hold_set : (stamp : Stamp) (hold : Bool) (it : Bool) (row : Entry)
     → set_to row (row.tags_stamp, row.tags) (newest_of (cond it (Some (stamp, hold)) None) (row.hold_stamp, row.hold)) ≡ cond it (with_hold stamp hold row) row
 hold_set stamp hold true row = go (is_before row.hold_stamp stamp)
   where
-    go : (t : Bool) → set_to row (row.tags_stamp, row.tags) (cond t (stamp, hold) (row.hold_stamp, row.hold)) ≡ cond t (record row { hold = hold; hold_stamp = stamp }) row
+    go : (t : Bool) → set_to row (row.tags_stamp, row.tags) (cond t (stamp, hold) (row.hold_stamp, row.hold)) ≡ cond t
+        (record row { hold = hold; hold_stamp = stamp }) row
     go true = refl
     go false = refl
 hold_set stamp hold false row = refl
 
 abbrev sets_tags : Stamp → List Tag → Name → VersionId → Bool → Entry → Entry
-sets_tags stamp tags key id t row = set_to row (newest_of (cond (t && is_version key id row) (Some (stamp, tags)) None) (row.tags_stamp, row.tags)) (row.hold_stamp, row.hold)
+sets_tags stamp tags key id t row = set_to row (newest_of (cond (t && is_version key id row) (Some (stamp, tags)) None) (row.tags_stamp, row.tags))
+    (row.hold_stamp, row.hold)
 
-sets_those_tags : (stamp : Stamp) (tags : List Tag) (key : Name) (id : VersionId) (t : Bool) (rs : List Entry) → map (sets_tags stamp tags key id t) rs ≡ cond t (on_version key id (with_tags stamp tags) rs) rs
+sets_those_tags : (stamp : Stamp) (tags : List Tag) (key : Name) (id : VersionId) (t : Bool) (rs : List Entry)
+    → map (sets_tags stamp tags key id t) rs ≡ cond t (on_version key id (with_tags stamp tags) rs) rs
 sets_those_tags stamp tags key id true [] = refl
 sets_those_tags stamp tags key id true (row ∷ rs) =
     ap (λ x. x ∷ map (sets_tags stamp tags key id true) rs) (tags_set stamp tags (is_version key id row) row)
@@ -256,7 +271,8 @@ sets_those_tags stamp tags key id false [] = refl
 sets_those_tags stamp tags key id false (row ∷ rs) = ap (λ xs. row ∷ xs) (sets_those_tags stamp tags key id false rs)
 
 pub rows-tags : (r : ℕ) (h : History) (b bucket key : Name) (id : VersionId) (tags : List Tag)
-    → rows (deeds r (command.SetTags bucket key id tags ∷ h)) b ≡ cond (bytes_eq bucket b) (on_version key id (with_tags (next_stamp r (deeds r h)) tags) (rows (deeds r h) b)) (rows (deeds r h) b)
+    → rows (deeds r (command.SetTags bucket key id tags ∷ h)) b ≡ cond (bytes_eq bucket b)
+    (on_version key id (with_tags (next_stamp r (deeds r h)) tags) (rows (deeds r h) b)) (rows (deeds r h) b)
 rows-tags r h b bucket key id tags =
     let c = command.SetTags bucket key id tags in
     rows-step r h b c refl
@@ -264,9 +280,11 @@ rows-tags r h b bucket key id tags =
     ∙ sets_those_tags (next_stamp r (deeds r h)) tags key id (bytes_eq bucket b) (rows (deeds r h) b)
 
 abbrev sets_hold : Stamp → Bool → Name → VersionId → Bool → Entry → Entry
-sets_hold stamp hold key id t row = set_to row (row.tags_stamp, row.tags) (newest_of (cond (t && is_version key id row) (Some (stamp, hold)) None) (row.hold_stamp, row.hold))
+sets_hold stamp hold key id t row = set_to row (row.tags_stamp, row.tags)
+    (newest_of (cond (t && is_version key id row) (Some (stamp, hold)) None) (row.hold_stamp, row.hold))
 
-sets_that_hold : (stamp : Stamp) (hold : Bool) (key : Name) (id : VersionId) (t : Bool) (rs : List Entry) → map (sets_hold stamp hold key id t) rs ≡ cond t (on_version key id (with_hold stamp hold) rs) rs
+sets_that_hold : (stamp : Stamp) (hold : Bool) (key : Name) (id : VersionId) (t : Bool) (rs : List Entry)
+    → map (sets_hold stamp hold key id t) rs ≡ cond t (on_version key id (with_hold stamp hold) rs) rs
 sets_that_hold stamp hold key id true [] = refl
 sets_that_hold stamp hold key id true (row ∷ rs) =
     ap (λ x. x ∷ map (sets_hold stamp hold key id true) rs) (hold_set stamp hold (is_version key id row) row)
@@ -275,7 +293,8 @@ sets_that_hold stamp hold key id false [] = refl
 sets_that_hold stamp hold key id false (row ∷ rs) = ap (λ xs. row ∷ xs) (sets_that_hold stamp hold key id false rs)
 
 pub rows-hold : (r : ℕ) (h : History) (b bucket key : Name) (id : VersionId) (hold : Bool)
-    → rows (deeds r (command.SetHold bucket key id hold ∷ h)) b ≡ cond (bytes_eq bucket b) (on_version key id (with_hold (next_stamp r (deeds r h)) hold) (rows (deeds r h) b)) (rows (deeds r h) b)
+    → rows (deeds r (command.SetHold bucket key id hold ∷ h)) b ≡ cond (bytes_eq bucket b)
+    (on_version key id (with_hold (next_stamp r (deeds r h)) hold) (rows (deeds r h) b)) (rows (deeds r h) b)
 rows-hold r h b bucket key id hold =
     let c = command.SetHold bucket key id hold in
     rows-step r h b c refl

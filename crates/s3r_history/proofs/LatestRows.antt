@@ -44,7 +44,8 @@ clock_fits r [] = omega arith
 clock_fits r (c ∷ h) = omega (arith, clock_fits r h, n_fits r (deeds r h) c)
 
 -- the id that the next command gives isn't there
-pub next_new : (r : ℕ) (h : History) (b key : Name) (id : VersionId) → id.index ≡ (next_stamp r (deeds r h)).index → find_version key id (rows (deeds r h) b) ≡ None
+pub next_new : (r : ℕ) (h : History) (b key : Name) (id : VersionId) → id.index ≡ (next_stamp r (deeds r h)).index
+    → find_version key id (rows (deeds r h) b) ≡ None
 next_new r h b key id same =
     none-found key id (rows (deeds r h) b)
     (all-weaker (is_old r (length (deeds r h)) (clock (deeds r h))) (λ (v : Entry). not (is_version key id v))
@@ -53,14 +54,16 @@ next_new r h b key id same =
 -- a removed version is gone
 pub removed_gone : (r : ℕ) (h : History) (b key : Name) (id : VersionId) → row_at (deeds r (command.Remove b key id ∷ h)) b key id ≡ None
 removed_gone r h b key id =
-    ap (find_version key id) (rows-remove r h b b key id ∙ ap (λ t. cond t (without_version key id (rows (deeds r h) b)) (rows (deeds r h) b)) (nat_list_eq_equiv.refl b))
+    ap (find_version key id) (rows-remove r h b b key id ∙ ap (λ t. cond t (without_version key id (rows (deeds r h) b)) (rows (deeds r h) b))
+    (nat_list_eq_equiv.refl b))
     ∙ none (rows (deeds r h) b)
   where
     none : (rs : List Entry) → find_version key id (without_version key id rs) ≡ None
     none [] = refl
     none (row ∷ rs) = go (is_version key id row) refl (none rs)
       where
-        go : (t : Bool) → is_version key id row ≡ t → find_version key id (without_version key id rs) ≡ None → find_version key id (cond (not t) (row ∷ without_version key id rs) (without_version key id rs)) ≡ None
+        go : (t : Bool) → is_version key id row ≡ t → find_version key id (without_version key id rs) ≡ None
+            → find_version key id (cond (not t) (row ∷ without_version key id rs) (without_version key id rs)) ≡ None
         go true e ih = ih
         go false e ih = ap (λ t. cond t (Some row) (find_version key id (without_version key id rs))) e ∙ ih
 
@@ -69,7 +72,8 @@ other true h = sym h
 other false h = refl
 
 -- a row that comes before all others of its key is the first of its key
-first_found : (key : Name) (row : Entry) (xs : List Entry) → is_of_key key row ≡ true → list_all (λ x. not (is_of_key key x) || comes_before row x) xs ≡ true → find (is_of_key key) (with_row row xs) ≡ Some row
+first_found : (key : Name) (row : Entry) (xs : List Entry) → is_of_key key row ≡ true → list_all (λ x. not (is_of_key key x) || comes_before row x) xs ≡ true
+    → find (is_of_key key) (with_row row xs) ≡ Some row
 first_found key row [] same all = ap (λ t. cond t (Some row) None) same
 first_found key row (x ∷ xs) same all = go (comes_before row x) parts.0 (first_found key row xs same parts.1)
   where
@@ -97,9 +101,11 @@ newer_later r k n row x region index number old = go (cases_lt x.n row.n)
         let at : x.n ≤ n = leb-true x.n n rest.1 in
         let from : x.id.index ≤ k = leb-true x.id.index k rest.0 in
         or_right _ _ (and_from (x.n == row.n) _ (eq-eqb x.n row.n (omega arith))
-        (or_right _ _ (and_from (x.id.region == row.id.region) _ (eq-eqb x.id.region row.id.region (eqb-true x.id.region r parts.0 ∙ sym region)) (lt-ltb x.id.index row.id.index (omega arith)))))
+        (or_right _ _ (and_from (x.id.region == row.id.region) _ (eq-eqb x.id.region row.id.region (eqb-true x.id.region r parts.0 ∙ sym region))
+        (lt-ltb x.id.index row.id.index (omega arith)))))
 
-all_earlier : (r k n : ℕ) (key : Name) (row : Entry) (xs : List Entry) → is_of_key key row ≡ true → row.id.region ≡ r → k < row.id.index → n ≤ row.n → list_all (is_old r k n) xs ≡ true
+all_earlier : (r k n : ℕ) (key : Name) (row : Entry) (xs : List Entry) → is_of_key key row ≡ true → row.id.region ≡ r → k < row.id.index → n ≤ row.n
+    → list_all (is_old r k n) xs ≡ true
     → list_all (λ x. not (is_of_key key x) || comes_before row x) xs ≡ true
 all_earlier r k n key row [] same region index number all = refl
 all_earlier r k n key row (x ∷ xs) same region index number all =
@@ -119,7 +125,8 @@ added_latest r h k b key row is same region index number =
     sym (first-is-latest key (rows (deeds r k) b) (rows_listed r k b))
     ∙ ap (find (is_of_key key)) is
     ∙ first_found key row (rows (deeds r h) b) (ap (λ n. bytes_eq n key) same ∙ nat_list_eq_equiv.refl key)
-    (all_earlier r (length (deeds r h)) (clock (deeds r h)) key row (rows (deeds r h) b) (ap (λ n. bytes_eq n key) same ∙ nat_list_eq_equiv.refl key) region index number (rows_old r h b))
+    (all_earlier r (length (deeds r h)) (clock (deeds r h)) key row (rows (deeds r h) b)
+    (ap (λ n. bytes_eq n key) same ∙ nat_list_eq_equiv.refl key) region index number (rows_old r h b))
 
 pub put_latest : (r : ℕ) (h : History) (b key : Name) (tags : List Tag) (hold : Bool) (class body : List ℕ)
     → latest (deeds r (command.Put b key tags hold class body ∷ h)) b key ≡ Some (version (next_stamp r (deeds r h)) key tags hold class body)

@@ -3,5 +3,6 @@ pub mod Versions
 pub mod Present
 pub mod HistoryRows
 pub mod LatestRows
+pub mod FirstGreatest
 pub mod HistoryNames
 pub mod ToldSteps

@@ -23,7 +23,8 @@ newest_of (Some w) v = newer_of w v
 -- a row after the deed
 abbrev pub written : Name → Deed → Entry → Entry
 written b d row =
-    set_to row (newest_of (tag_write b row.key row.id d.stamp d.command) (row.tags_stamp, row.tags)) (newest_of (hold_write b row.key row.id d.stamp d.command) (row.hold_stamp, row.hold))
+    set_to row (newest_of (tag_write b row.key row.id d.stamp d.command) (row.tags_stamp, row.tags))
+    (newest_of (hold_write b row.key row.id d.stamp d.command) (row.hold_stamp, row.hold))
 
 pub written-place : (b : Name) (d : Deed) → KeepsPlace (written b d)
 written-place b d = record { key = λ row. refl; id = λ row. refl; n = λ row. refl }
@@ -31,17 +32,21 @@ written-place b d = record { key = λ row. refl; id = λ row. refl; n = λ row. 
 pub present-place : (past : Past) (b : Name) → KeepsPlace (at_present past b)
 present-place past b = record { key = λ row. refl; id = λ row. refl; n = λ row. refl }
 
-one-more : {X : Type 0} (first : Stamp × X) (o : Option (Stamp × X)) (ws : List (Stamp × X)) → greatest first (cons_option o ws) ≡ newest_of o (greatest first ws)
+one-more : {X : Type 0} (first : Stamp × X) (o : Option (Stamp × X)) (ws : List (Stamp × X))
+    → greatest first (cons_option o ws) ≡ newest_of o (greatest first ws)
 one-more first None ws = refl
 one-more first (Some w) ws = refl
 
 -- a deed that doesn't add the version writes about it
-present-old : (d : Deed) (past : Past) (b : Name) (v : Entry) → adds_it b v.key v.id d.adds ≡ false → at_present (d ∷ past) b v ≡ written b d (at_present past b v)
+present-old : (d : Deed) (past : Past) (b : Name) (v : Entry) → adds_it b v.key v.id d.adds ≡ false
+    → at_present (d ∷ past) b v ≡ written b d (at_present past b v)
 present-old d past b v old =
     ap (λ t. set_to v (greatest (v.tags_stamp, v.tags) (cond t [] (cons_option (tag_write b v.key v.id d.stamp d.command) tags)))
     (greatest (v.hold_stamp, v.hold) (cond t [] (cons_option (hold_write b v.key v.id d.stamp d.command) hold)))) old
-    ∙ ap (λ x. set_to v x (greatest (v.hold_stamp, v.hold) (cons_option (hold_write b v.key v.id d.stamp d.command) hold))) (one-more (v.tags_stamp, v.tags) (tag_write b v.key v.id d.stamp d.command) tags)
-    ∙ ap (set_to v (newest_of (tag_write b v.key v.id d.stamp d.command) (tags_of past b v))) (one-more (v.hold_stamp, v.hold) (hold_write b v.key v.id d.stamp d.command) hold)
+    ∙ ap (λ x. set_to v x (greatest (v.hold_stamp, v.hold) (cons_option (hold_write b v.key v.id d.stamp d.command) hold)))
+    (one-more (v.tags_stamp, v.tags) (tag_write b v.key v.id d.stamp d.command) tags)
+    ∙ ap (set_to v (newest_of (tag_write b v.key v.id d.stamp d.command) (tags_of past b v)))
+    (one-more (v.hold_stamp, v.hold) (hold_write b v.key v.id d.stamp d.command) hold)
   where
     tags : List (Stamp × List Tag)
     tags = writes (λ (e : Deed). tag_write b v.key v.id e.stamp e.command) (adds_it b v.key v.id) past
@@ -52,15 +57,18 @@ present-old d past b v old =
 -- what a deed adds is at first as it was added
 present-new : (d : Deed) (past : Past) (b : Name) (v : Entry) → adds_it b v.key v.id d.adds ≡ true → at_present (d ∷ past) b v ≡ v
 present-new d past b v new =
-    ap (λ t. set_to v (greatest (v.tags_stamp, v.tags) (cond t [] (cons_option (tag_write b v.key v.id d.stamp d.command) (writes (λ (e : Deed). tag_write b v.key v.id e.stamp e.command) (adds_it b v.key v.id) past))))
-    (greatest (v.hold_stamp, v.hold) (cond t [] (cons_option (hold_write b v.key v.id d.stamp d.command) (writes (λ (e : Deed). hold_write b v.key v.id e.stamp e.command) (adds_it b v.key v.id) past))))) new
+    ap (λ t. set_to v (greatest (v.tags_stamp, v.tags) (cond t [] (cons_option (tag_write b v.key v.id d.stamp d.command)
+    (writes (λ (e : Deed). tag_write b v.key v.id e.stamp e.command) (adds_it b v.key v.id) past))))
+    (greatest (v.hold_stamp, v.hold) (cond t [] (cons_option (hold_write b v.key v.id d.stamp d.command)
+    (writes (λ (e : Deed). hold_write b v.key v.id e.stamp e.command) (adds_it b v.key v.id) past))))) new
 
 id_refl : (i : VersionId) → id_eq i i ≡ true
 id_refl i = grind (arith, nat_tests)
 
-adds-itself : (b : Name) (a : Added) → bytes_eq a.bucket b ≡ true → adds_it b a.row.key a.row.id (Some a) ≡ true
+pub adds-itself : (b : Name) (a : Added) → bytes_eq a.bucket b ≡ true → adds_it b a.row.key a.row.id (Some a) ≡ true
 adds-itself b a e =
-    ap (λ t. t && (bytes_eq a.row.key a.row.key && id_eq a.row.id a.row.id)) e ∙ ap (λ t. t && id_eq a.row.id a.row.id) (nat_list_eq_equiv.refl a.row.key) ∙ id_refl a.row.id
+    ap (λ t. t && (bytes_eq a.row.key a.row.key && id_eq a.row.id a.row.id)) e ∙ ap (λ t. t && id_eq a.row.id a.row.id) (nat_list_eq_equiv.refl a.row.key)
+    ∙ id_refl a.row.id
 
 -- the versions that were there, as the deed leaves them
 present-all : (d : Deed) (past : Past) (b : Name) (vs : List Entry) → list_all (λ (v : Entry). not (adds_it b v.key v.id d.adds)) vs ≡ true
@@ -68,17 +76,20 @@ present-all : (d : Deed) (past : Past) (b : Name) (vs : List Entry) → list_all
 present-all d past b [] others = refl
 present-all d past b (v ∷ vs) others =
     let parts = and_parts (not (adds_it b v.key v.id d.adds)) (list_all (λ (w : Entry). not (adds_it b w.key w.id d.adds)) vs) others in
-    ap (λ x. x ∷ map (at_present (d ∷ past) b) vs) (present-old d past b v (not-true _ parts.0)) ∙ ap (λ xs. written b d (at_present past b v) ∷ xs) (present-all d past b vs parts.1)
+    ap (λ x. x ∷ map (at_present (d ∷ past) b) vs) (present-old d past b v (not-true _ parts.0))
+    ∙ ap (λ xs. written b d (at_present past b v) ∷ xs) (present-all d past b vs parts.1)
 
 -- where what is added is unknown, the others are others
-others : (b : Name) (adds : Option Added) (vs : List Entry) → IfSome adds (λ (a : Added). list_all (λ (v : Entry). not (is_version a.row.key a.row.id v)) vs ≡ true)
+pub others : (b : Name) (adds : Option Added) (vs : List Entry)
+    → IfSome adds (λ (a : Added). list_all (λ (v : Entry). not (is_version a.row.key a.row.id v)) vs ≡ true)
     → list_all (λ (v : Entry). not (adds_it b v.key v.id adds)) vs ≡ true
 others b None [] new = refl
 others b None (v ∷ vs) new = others b None vs tt
 others b (Some a) [] new = refl
 others b (Some a) (v ∷ vs) new =
     let parts = and_parts (not (is_version a.row.key a.row.id v)) (list_all (λ (w : Entry). not (is_version a.row.key a.row.id w)) vs) new in
-    ap (λ t. not t && list_all (λ (w : Entry). not (adds_it b w.key w.id (Some a))) vs) (and_right (bytes_eq a.bucket b) _ (not-true _ parts.0)) ∙ others b (Some a) vs parts.1
+    ap (λ t. not t && list_all (λ (w : Entry). not (adds_it b w.key w.id (Some a))) vs) (and_right (bytes_eq a.bucket b) _ (not-true _ parts.0))
+    ∙ others b (Some a) vs parts.1
 
 -- the versions after a deed, with their tags and hold
 pub present-front : (d : Deed) (past : Past) (b : Name) (o : Option Added) (vs : List Entry) → d.adds ≡ o
@@ -90,6 +101,8 @@ present-front d past b (Some a) vs is new = go (bytes_eq a.bucket b) refl
     rest : map (at_present (d ∷ past) b) vs ≡ map (written b d) (map (at_present past b) vs)
     rest = present-all d past b vs (ap (λ o. list_all (λ (v : Entry). not (adds_it b v.key v.id o)) vs) is ∙ others b (Some a) vs new)
 
-    go : (t : Bool) → bytes_eq a.bucket b ≡ t → map (at_present (d ∷ past) b) (cond t (a.row ∷ vs) vs) ≡ cond t (a.row ∷ map (written b d) (map (at_present past b) vs)) (map (written b d) (map (at_present past b) vs))
-    go true e = ap (λ x. x ∷ map (at_present (d ∷ past) b) vs) (present-new d past b a.row (ap (adds_it b a.row.key a.row.id) is ∙ adds-itself b a e)) ∙ ap (λ xs. a.row ∷ xs) rest
+    go : (t : Bool) → bytes_eq a.bucket b ≡ t → map (at_present (d ∷ past) b) (cond t (a.row ∷ vs) vs) ≡ cond t
+        (a.row ∷ map (written b d) (map (at_present past b) vs)) (map (written b d) (map (at_present past b) vs))
+    go true e = ap (λ x. x ∷ map (at_present (d ∷ past) b) vs) (present-new d past b a.row (ap (adds_it b a.row.key a.row.id) is ∙ adds-itself b a e))
+        ∙ ap (λ xs. a.row ∷ xs) rest
     go false e = rest

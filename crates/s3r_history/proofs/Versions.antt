@@ -36,7 +36,8 @@ filter-append : {X : Type 0} (p : X → Bool) (xs ys : List X) → filter p (xs 
 filter-append p [] ys = refl
 filter-append p (x ∷ xs) ys = go (p x) (filter-append p xs ys)
   where
-    go : (b : Bool) → filter p (xs ++ ys) ≡ filter p xs ++ filter p ys → cond b (x ∷ filter p (xs ++ ys)) (filter p (xs ++ ys)) ≡ cond b (x ∷ filter p xs) (filter p xs) ++ filter p ys
+    go : (b : Bool) → filter p (xs ++ ys) ≡ filter p xs ++ filter p ys
+        → cond b (x ∷ filter p (xs ++ ys)) (filter p (xs ++ ys)) ≡ cond b (x ∷ filter p xs) (filter p xs) ++ filter p ys
     go true e = ap (λ zs. x ∷ zs) e
     go false e = e
 
@@ -83,7 +84,8 @@ added-front b (Some a) vs = go (bytes_eq a.bucket b)
     go false = refl
 
 -- the versions of the bucket after one deed more, which isn't its creation
-pub versions-step : (b : Name) (d : Deed) (past : Past) → creates b d.command ≡ false → versions (d ∷ past) b ≡ front b d.adds (kept_by b d.command (versions past b))
+pub versions-step : (b : Name) (d : Deed) (past : Past) → creates b d.command ≡ false
+    → versions (d ∷ past) b ≡ front b d.adds (kept_by b d.command (versions past b))
 versions-step b d past goes_on =
     ap (λ t. standing b [] (cond t [] (d ∷ life b past))) goes_on
     ∙ ap (λ vs. added_to b [] d.adds ++ vs) (standing-snoc b d.command [] (life b past))
@@ -126,7 +128,8 @@ new-deed r past (command.Marker b key) =
     (new_old r (length past) (next_stamp r past).n (max (next_stamp r past).n (clock past)) (marker (next_stamp r past) key) refl refl refl (omega arith), refl)
 new-deed r past _ = tt
 
-old-front : (r k n : ℕ) (b : Name) (adds : Option Added) (vs : List Entry) → IfSome adds (λ (a : Added). is_old r k n a.row ≡ true) → list_all (is_old r k n) vs ≡ true → list_all (is_old r k n) (front b adds vs) ≡ true
+old-front : (r k n : ℕ) (b : Name) (adds : Option Added) (vs : List Entry) → IfSome adds (λ (a : Added). is_old r k n a.row ≡ true)
+    → list_all (is_old r k n) vs ≡ true → list_all (is_old r k n) (front b adds vs) ≡ true
 old-front r k n b None vs new all = all
 old-front r k n b (Some a) vs new all = go (bytes_eq a.bucket b)
   where
@@ -134,7 +137,7 @@ old-front r k n b (Some a) vs new all = go (bytes_eq a.bucket b)
     go true = and_from _ _ new all
     go false = all
 
-some_of : {A : Type 0} {P Q : A → Type 0} (o : Option A) → ((a : A) → P a → Q a) → IfSome o P → IfSome o Q
+pub some_of : {A : Type 0} {P Q : A → Type 0} (o : Option A) → ((a : A) → P a → Q a) → IfSome o P → IfSome o Q
 some_of None f p = tt
 some_of (Some a) f p = f a p
 
@@ -149,15 +152,18 @@ all_old r (c ∷ h) b = go (creates b c) refl (all_old r h b)
     old : Entry → Bool
     old = is_old r (suc (length (deeds r h))) (max (n_of c (next_stamp r (deeds r h))) (clock (deeds r h)))
 
-    go : (t : Bool) → creates b c ≡ t → list_all (is_old r (length (deeds r h)) (clock (deeds r h))) (versions past b) ≡ true → list_all old (versions (deed r past c ∷ past) b) ≡ true
+    go : (t : Bool) → creates b c ≡ t → list_all (is_old r (length (deeds r h)) (clock (deeds r h))) (versions past b) ≡ true
+        → list_all old (versions (deed r past c ∷ past) b) ≡ true
     go true begins ih = ap (list_all old) (versions-birth b (deed r past c) past begins)
     go false goes_on ih =
         ap (list_all old) (versions-step b (deed r past c) past goes_on)
-        ∙ old-front r (suc (length (deeds r h))) (max (n_of c (next_stamp r (deeds r h))) (clock (deeds r h))) b (deed r past c).adds (kept_by b c (versions past b))
+        ∙ old-front r (suc (length (deeds r h))) (max (n_of c (next_stamp r (deeds r h))) (clock (deeds r h))) b (deed r past c).adds
+        (kept_by b c (versions past b))
         (some_of (deed r past c).adds (λ a new. new.0) (new-deed r past c))
         (all-filter old (λ (v : Entry). not (removes b v.key v.id c)) (versions past b)
         (all-weaker (is_old r (length (deeds r h)) (clock (deeds r h))) old
-        (λ v. old-more r (length (deeds r h)) (suc (length (deeds r h))) (clock (deeds r h)) (max (n_of c (next_stamp r (deeds r h))) (clock (deeds r h))) v (omega arith) (omega arith)) (versions past b) ih))
+        (λ v. old-more r (length (deeds r h)) (suc (length (deeds r h))) (clock (deeds r h)) (max (n_of c (next_stamp r (deeds r h))) (clock (deeds r h))) v
+        (omega arith) (omega arith)) (versions past b) ih))
 
 -- ---- each version stands once
 
@@ -187,10 +193,13 @@ pub unknown : (r : ℕ) (h : History) (b : Name) (c : Command) → IfSome (deed 
 unknown r h b c =
     some_of (deed r (deeds r h) c).adds
     (λ (a : Added) new. all-weaker (is_old r (length (deeds r h)) (clock (deeds r h))) (λ (v : Entry). not (is_version a.row.key a.row.id v))
-    (λ v old. ap not (other_old r (length (deeds r h)) (clock (deeds r h)) a.row.key a.row.id v (omega (arith, new.1)) old)) (versions (deeds r h) b) (all_old r h b))
+    (λ v old. ap not (other_old r (length (deeds r h)) (clock (deeds r h)) a.row.key a.row.id v (omega (arith, new.1)) old)) (versions (deeds r h) b)
+    (all_old r h b))
     (new-deed r (deeds r h) c)
 
-once-front : (b : Name) (adds : Option Added) (vs : List Entry) → IfSome adds (λ (a : Added). list_all (λ (v : Entry). not (is_version a.row.key a.row.id v)) vs ≡ true) → has_each_once vs ≡ true → has_each_once (front b adds vs) ≡ true
+once-front : (b : Name) (adds : Option Added) (vs : List Entry) → IfSome adds
+    (λ (a : Added). list_all (λ (v : Entry). not (is_version a.row.key a.row.id v)) vs ≡ true) → has_each_once vs ≡ true
+    → has_each_once (front b adds vs) ≡ true
 once-front b None vs new once = once
 once-front b (Some a) vs new once = go (bytes_eq a.bucket b)
   where
@@ -210,5 +219,6 @@ once-versions r (c ∷ h) b = go (creates b c) refl (once-versions r h b)
     go false goes_on ih =
         ap has_each_once (versions-step b (deed r past c) past goes_on)
         ∙ once-front b (deed r past c).adds (kept_by b c (versions past b))
-        (some_of (deed r past c).adds (λ (a : Added) new. all-filter (λ (v : Entry). not (is_version a.row.key a.row.id v)) (λ (v : Entry). not (removes b v.key v.id c)) (versions past b) new) (unknown r h b c))
+        (some_of (deed r past c).adds (λ (a : Added) new. all-filter (λ (v : Entry). not (is_version a.row.key a.row.id v))
+        (λ (v : Entry). not (removes b v.key v.id c)) (versions past b) new) (unknown r h b c))
         (once-filter (λ (v : Entry). not (removes b v.key v.id c)) (versions past b) ih)

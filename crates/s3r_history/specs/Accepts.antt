@@ -10,7 +10,7 @@ use Rattle.s3r_history.specs.declared.refusal.Refusal.TheVariants as refusals
 use Rattle.s3r_history.specs.Words.{Name, History}
 use Rattle.s3r_history.specs.Buckets.{names}
 use Rattle.s3r_history.specs.Past.{Entry}
-use Rattle.s3r_history.specs.Told.{Told, told}
+use Rattle.s3r_history.specs.BucketView.{BucketView, told}
 
 -- a condition under which a command is refused, and how
 abbrev pub Cause : Type 0
@@ -22,7 +22,7 @@ first_of_causes [] = None
 first_of_causes (c ∷ cs) = if c.0 then Some c.1 else first_of_causes cs
 
 -- the causes of a bucket that is there, behind that of one that isn't
-abbrev pub in_bucket : (Told → List Cause) → Option Told → List Cause
+abbrev pub in_bucket : (BucketView → List Cause) → Option BucketView → List Cause
 in_bucket more None = (true, refusals.NoSuchBucket) ∷ []
 in_bucket more (Some at) = more at
 
@@ -35,14 +35,14 @@ abbrev pub has_rows : List Entry → Bool
 has_rows [] = false
 has_rows (row ∷ rows) = true
 
-abbrev pub of_creation : Option Told → ℕ → List Cause
+abbrev pub of_creation : Option BucketView → ℕ → List Cause
 of_creation at count = (is_some at, refusals.BucketAlreadyExists) ∷ (nat_le 100 count, refusals.TooManyBuckets) ∷ []
 
-abbrev pub of_deletion : Told → List Cause
+abbrev pub of_deletion : BucketView → List Cause
 of_deletion at = (has_rows at.rows, refusals.BucketNotEmpty) ∷ []
 
 -- versioning isn't switched off under Object Lock, nor where a configuration needs it
-abbrev pub of_switch : Bool → Told → List Cause
+abbrev pub of_switch : Bool → BucketView → List Cause
 of_switch enabled at = (not enabled && (is_some at.config || at.locked), refusals.InvalidBucketState) ∷ []
 
 -- the first region of a rule that isn't there, where there are n regions
@@ -54,35 +54,35 @@ abbrev pub unless_beyond : List Cause → Option ℕ → List Cause
 unless_beyond more None = more
 unless_beyond more (Some r) = (true, refusals.NoSuchRegion r) ∷ []
 
-abbrev pub of_configuration : Told → List Cause
+abbrev pub of_configuration : BucketView → List Cause
 of_configuration at = (not at.enabled, refusals.InvalidBucketState) ∷ []
 
-abbrev pub of_dropping : Told → List Cause
+abbrev pub of_dropping : BucketView → List Cause
 of_dropping at = (not (is_some at.config), refusals.NoReplication) ∷ []
 
-abbrev pub of_put : Bool → Told → List Cause
+abbrev pub of_put : Bool → BucketView → List Cause
 of_put hold at = (not at.enabled, refusals.InvalidBucketState) ∷ (hold && not at.locked, refusals.LockNeeded) ∷ []
 
-abbrev pub of_marker : Told → List Cause
+abbrev pub of_marker : BucketView → List Cause
 of_marker at = (not at.enabled, refusals.InvalidBucketState) ∷ []
 
 abbrev pub under_hold : Entry → List Cause
 under_hold row = (row.hold, refusals.AccessDenied) ∷ []
 
-abbrev pub of_removal : Name → VersionId → Told → List Cause
+abbrev pub of_removal : Name → VersionId → BucketView → List Cause
 of_removal key id at = in_version under_hold (find_version key id at.rows)
 
 abbrev pub of_a_marker : Entry → List Cause
 of_a_marker row = (row.marker, refusals.MethodNotAllowed) ∷ []
 
-abbrev pub of_tags : Name → VersionId → Told → List Cause
+abbrev pub of_tags : Name → VersionId → BucketView → List Cause
 of_tags key id at = in_version of_a_marker (find_version key id at.rows)
 
-abbrev pub of_hold : Name → VersionId → Told → List Cause
+abbrev pub of_hold : Name → VersionId → BucketView → List Cause
 of_hold key id at = (not at.locked, refusals.LockNeeded) ∷ in_version of_a_marker (find_version key id at.rows)
 
 -- why a command may be refused, in order, where there are n regions, by what is told of buckets and by how many there are
-abbrev pub causes : ℕ → (Name → Option Told) → ℕ → Command → List Cause
+abbrev pub causes : ℕ → (Name → Option BucketView) → ℕ → Command → List Cause
 causes n at count (command.CreateBucket name locked) = of_creation (at name) count
 causes n at count (command.DeleteBucket name) = in_bucket of_deletion (at name)
 causes n at count (command.SetVersioning name enabled) = in_bucket (of_switch enabled) (at name)

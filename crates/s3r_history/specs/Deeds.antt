@@ -32,11 +32,18 @@ version stamp key tags hold class body = record {
 abbrev pub marker : Stamp → Name → Entry
 marker stamp key = record (version stamp key [] false (codes "STANDARD") []) { marker = true }
 
--- the version that a command adds: these cases alone
+-- the version that a command adds
 abbrev pub added_by : Stamp → Command → Option Added
-added_by stamp (command.Put b key tags hold class body) = Some (record { bucket = b; row = version stamp key tags hold class body })
-added_by stamp (command.Marker b key) = Some (record { bucket = b; row = marker stamp key })
-added_by stamp _ = None
+added_by stamp (command.CreateBucket name locked) = None
+added_by stamp (command.DeleteBucket name) = None
+added_by stamp (command.SetVersioning name enabled) = None
+added_by stamp (command.SetReplication name config regions) = None
+added_by stamp (command.DropReplication name) = None
+added_by stamp (command.Put bucket key tags hold class body) = Some (record { bucket = bucket; row = version stamp key tags hold class body })
+added_by stamp (command.Marker bucket key) = Some (record { bucket = bucket; row = marker stamp key })
+added_by stamp (command.Remove bucket key id) = None
+added_by stamp (command.SetTags bucket key id tags) = None
+added_by stamp (command.SetHold bucket key id hold) = None
 
 -- what a command does after these deeds
 abbrev pub deed : ℕ → Past → Command → Deed

@@ -2,6 +2,7 @@
 use Rattle.std.specs.Prelude.{◌≡◌, ◌≤◌, ℕ, Bool, true, not, ◌&&◌, List, [], ◌∷◌, Some, None, Contains, length}
 use Rattle.std.specs.List.{list_any}
 use Rattle.std.specs.Str.{bytes_eq}
+use Rattle.s3r_names.specs.declared.stamp.Stamp.{Stamp}
 use Rattle.s3r_names.specs.declared.tags.Tag.{Tag}
 use Rattle.s3r_names.specs.declared.version.VersionId.{VersionId}
 use Rattle.s3r_record.specs.declared.command.Command.TheVariants as command
@@ -11,6 +12,9 @@ use Rattle.s3r_history.specs.Buckets.{is_there, names}
 use Rattle.s3r_history.specs.Past.{Entry}
 use Rattle.s3r_history.specs.Deeds.{deeds, next_stamp, version, marker}
 use Rattle.s3r_history.specs.Rows.{rows, row_at, latest}
+use Rattle.s3r_history.specs.Writes.{tags_written, hold_written, IsFirstGreatest}
+use Rattle.s3r_history.specs.BucketView.{BucketView, told}
+use Rattle.s3r_history.specs.Accepts.{IsLawful}
 
 -- a bucket's rows stand in the listing order
 abbrev pub RowsAreListed : Type 0
@@ -36,6 +40,18 @@ MarkerIsLatest = (r : ℕ) (h : History) (b key : Name) → latest (deeds r (com
 -- a removed version isn't there
 abbrev pub RemovedIsGone : Type 0
 RemovedIsGone = (r : ℕ) (h : History) (b key : Name) (id : VersionId) → row_at (deeds r (command.Remove b key id ∷ h)) b key id ≡ None
+
+-- The tags of a row that is told are those of the first write whose stamp no other exceeds, among all that the history wrote
+-- of the version's tags: what it was added with, and what was set. So is its hold.
+abbrev pub RowsAreWritten : Type 0
+RowsAreWritten = (n r : ℕ) (h : History) (b : Name) (at : BucketView) (row : Entry) → IsLawful n r h → told r h b ≡ Some at → Contains at.rows row
+    → IsFirstGreatest (tags_written (deeds r h) b row.key row.id) (row.tags_stamp, row.tags)
+    × IsFirstGreatest (hold_written (deeds r h) b row.key row.id) (row.hold_stamp, row.hold)
+
+-- of several writes only one is that
+abbrev pub FirstGreatestIsOne : Type 0
+FirstGreatestIsOne = ((ws : List (Stamp × List Tag)) (v w : Stamp × List Tag) → IsFirstGreatest ws v → IsFirstGreatest ws w → v ≡ w)
+    × ((ws : List (Stamp × Bool)) (v w : Stamp × Bool) → IsFirstGreatest ws v → IsFirstGreatest ws w → v ≡ w)
 
 -- a name is counted where its bucket is there
 abbrev pub NamesAreThose : Type 0

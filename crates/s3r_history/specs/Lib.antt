@@ -3,6 +3,7 @@ pub mod Buckets
 pub mod Past
 pub mod Deeds
 pub mod Rows
-pub mod Told
+pub mod Writes
+pub mod BucketView
 pub mod Accepts
 pub mod Laws

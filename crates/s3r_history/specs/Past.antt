@@ -25,13 +25,18 @@ pub record Deed : Type 0 where
 abbrev pub Past : Type 0
 Past = List Deed
 
--- the greatest n that a command has
+-- the greatest n that a command has: that of its stamp where it writes under one
 abbrev pub n_of : Command → Stamp → ℕ
+n_of (command.CreateBucket name locked) stamp = 0
+n_of (command.DeleteBucket name) stamp = 0
+n_of (command.SetVersioning name enabled) stamp = 0
+n_of (command.SetReplication name config regions) stamp = 0
+n_of (command.DropReplication name) stamp = 0
 n_of (command.Put bucket key tags hold class body) stamp = stamp.n
 n_of (command.Marker bucket key) stamp = stamp.n
+n_of (command.Remove bucket key id) stamp = 0
 n_of (command.SetTags bucket key id tags) stamp = stamp.n
 n_of (command.SetHold bucket key id hold) stamp = stamp.n
-n_of _ stamp = 0
 
 -- the greatest n that the commands have, 0 where they have none
 abbrev pub clock : Past → ℕ

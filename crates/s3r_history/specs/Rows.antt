@@ -22,8 +22,16 @@ names_it bucket key id b k i = bytes_eq bucket b && (bytes_eq k key && id_eq i i
 
 -- the command removes the version
 abbrev pub removes : Name → Name → VersionId → Command → Bool
+removes b k i (command.CreateBucket name locked) = false
+removes b k i (command.DeleteBucket name) = false
+removes b k i (command.SetVersioning name enabled) = false
+removes b k i (command.SetReplication name config regions) = false
+removes b k i (command.DropReplication name) = false
+removes b k i (command.Put bucket key tags hold class body) = false
+removes b k i (command.Marker bucket key) = false
 removes b k i (command.Remove bucket key id) = names_it bucket key id b k i
-removes b k i _ = false
+removes b k i (command.SetTags bucket key id tags) = false
+removes b k i (command.SetHold bucket key id hold) = false
 
 -- what is added to the bucket, and not removed later
 abbrev pub added_to : Name → List Command → Option Added → List Entry
@@ -50,12 +58,28 @@ adds_it b k i (Some a) = names_it a.bucket a.row.key a.row.id b k i
 
 -- what a command writes about the tags of a version that is there, and about its hold
 abbrev pub tag_write : Name → Name → VersionId → Stamp → Command → Option (Stamp × List Tag)
+tag_write b k i stamp (command.CreateBucket name locked) = None
+tag_write b k i stamp (command.DeleteBucket name) = None
+tag_write b k i stamp (command.SetVersioning name enabled) = None
+tag_write b k i stamp (command.SetReplication name config regions) = None
+tag_write b k i stamp (command.DropReplication name) = None
+tag_write b k i stamp (command.Put bucket key tags hold class body) = None
+tag_write b k i stamp (command.Marker bucket key) = None
+tag_write b k i stamp (command.Remove bucket key id) = None
 tag_write b k i stamp (command.SetTags bucket key id tags) = if names_it bucket key id b k i then Some (stamp, tags) else None
-tag_write b k i stamp _ = None
+tag_write b k i stamp (command.SetHold bucket key id hold) = None
 
 abbrev pub hold_write : Name → Name → VersionId → Stamp → Command → Option (Stamp × Bool)
+hold_write b k i stamp (command.CreateBucket name locked) = None
+hold_write b k i stamp (command.DeleteBucket name) = None
+hold_write b k i stamp (command.SetVersioning name enabled) = None
+hold_write b k i stamp (command.SetReplication name config regions) = None
+hold_write b k i stamp (command.DropReplication name) = None
+hold_write b k i stamp (command.Put bucket key tags hold class body) = None
+hold_write b k i stamp (command.Marker bucket key) = None
+hold_write b k i stamp (command.Remove bucket key id) = None
+hold_write b k i stamp (command.SetTags bucket key id tags) = None
 hold_write b k i stamp (command.SetHold bucket key id hold) = if names_it bucket key id b k i then Some (stamp, hold) else None
-hold_write b k i stamp _ = None
 
 -- what was written about a version since the deed that added it, the newest first
 abbrev pub writes : {X : Type 0} → (Deed → Option X) → (Option Added → Bool) → Past → List X
@@ -100,8 +124,16 @@ latest past b key = lookup.latest key (rows past b)
 
 -- the id that the command removes from the bucket
 abbrev pub removed_id : Name → Command → Option VersionId
+removed_id b (command.CreateBucket name locked) = None
+removed_id b (command.DeleteBucket name) = None
+removed_id b (command.SetVersioning name enabled) = None
+removed_id b (command.SetReplication name config regions) = None
+removed_id b (command.DropReplication name) = None
+removed_id b (command.Put bucket key tags hold class body) = None
+removed_id b (command.Marker bucket key) = None
 removed_id b (command.Remove bucket key id) = if bytes_eq bucket b then Some id else None
-removed_id b _ = None
+removed_id b (command.SetTags bucket key id tags) = None
+removed_id b (command.SetHold bucket key id hold) = None
 
 abbrev pub with_removed : Option VersionId → List VersionId → List VersionId
 with_removed None ids = ids

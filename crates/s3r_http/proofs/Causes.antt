@@ -22,12 +22,14 @@ no_body CutShort lines n other cause asks = cause
 no_body Input lines n other cause asks = cause
 
 -- no request has such a head
-no_request : (fault : HttpFault) (bytes : List ℕ) (h g : RequestHead) (n : ℕ) → fault ≢ OutOfMemory → IsWholeHead bytes g → LinesCause fault (lines_of g) → Asks bytes h n → ⊥
+no_request : (fault : HttpFault) (bytes : List ℕ) (h g : RequestHead) (n : ℕ) → fault ≢ OutOfMemory → IsWholeHead bytes g → LinesCause fault (lines_of g)
+    → Asks bytes h n → ⊥
 no_request fault bytes h g n other whole cause asks =
     no_body fault (lines_of h) n other (subst (λ (k : RequestHead). LinesCause fault (lines_of k)) (one_head bytes g h whole asks.whole) cause) asks.body
 
 -- the lines of a head as a cause
-pub head_cause : (fault : HttpFault) (bytes : List ℕ) (h : RequestHead) (lines : List Line) → IsWholeHead bytes h → lines ≡ lines_of h → LinesCause fault lines → HeadCause fault bytes
+pub head_cause : (fault : HttpFault) (bytes : List ℕ) (h : RequestHead) (lines : List Line) → IsWholeHead bytes h → lines ≡ lines_of h
+    → LinesCause fault lines → HeadCause fault bytes
 head_cause NotImplemented bytes h lines whole same cause = (h, whole, subst (LinesCause NotImplemented) same cause)
 head_cause BadLength bytes h lines whole same cause = (h, whole, subst (LinesCause BadLength) same cause)
 head_cause EntityTooLarge bytes h lines whole same cause = (h, whole, subst (LinesCause EntityTooLarge) same cause)

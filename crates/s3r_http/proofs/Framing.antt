@@ -5,12 +5,12 @@ use Rattle.std.proofs.lemmas.List.{take_at, take-take, take-append-le, length-ta
 use Rattle.httparse.specs.Grammar.{RequestHead}
 use Rattle.httparse.proofs.GrammarLemmas.{request_unique}
 use Rattle.s3r_http.specs.declared.message.RawRequest.{RawRequest}
-use Rattle.s3r_http.specs.declared.reading.Plan.{Plan}
+use Rattle.s3r_http.specs.declared.reading.FramedHead.{FramedHead}
 use Rattle.s3r_http.specs.Head.{head_length, BeginsTooLong}
 use Rattle.s3r_http.specs.Lines.{line_of, is_last, values_of, SayLength}
 use Rattle.s3r_http.specs.Request.{IsWholeHead, lines_of, Asks, SpellsRequest, BeginsNone}
 use Rattle.s3r_http.specs.Refusals.{BeginsHead, EndsInBody}
-use Rattle.s3r_http.specs.Plans.{IsPlanOf, IsRawOf}
+use Rattle.s3r_http.specs.FramedHeads.{IsFramedHead, IsRawOf}
 use Rattle.s3r_http.proofs.Heads.{found_more, found_front}
 
 same_number : (a b : ℕ) → Some a ≡ Some b → a ≡ b
@@ -42,12 +42,14 @@ one_front stream a b x y =
     sym (take_at a x.rest (length b) size) ∙ ap (take (length b)) (sym x.is ∙ y.is) ∙ take_at b y.rest (length b) refl
 
 -- a head that is there, before bytes that are still to come
-pub front_taken : (buffer input bytes : List ℕ) (n : ℕ) → head_length (buffer ++ input) ≡ Some n → n ≤ 16384 → n ≤ length buffer → bytes ≡ take n buffer → BeginsHead (buffer ++ input) bytes
+pub front_taken : (buffer input bytes : List ℕ) (n : ℕ) → head_length (buffer ++ input) ≡ Some n → n ≤ 16384 → n ≤ length buffer → bytes ≡ take n buffer
+    → BeginsHead (buffer ++ input) bytes
 front_taken buffer input bytes n is short within same =
     let size : length bytes ≡ n = ap length same ∙ length-take-le n buffer within in
     record {
       rest = drop n buffer ++ input;
-      is = ap (λ (l : List ℕ). l ++ input) (sym (take-append-drop n buffer) ∙ ap (λ (l : List ℕ). l ++ drop n buffer) (sym same)) ∙ append_assoc bytes (drop n buffer) input;
+      is = ap (λ (l : List ℕ). l ++ input) (sym (take-append-drop n buffer) ∙ ap (λ (l : List ℕ). l ++ drop n buffer) (sym same))
+          ∙ append_assoc bytes (drop n buffer) input;
       ends = ap head_length (same ∙ sym (take-append-le n buffer input within)) ∙ found_front (buffer ++ input) n is ∙ ap Some (sym size);
       short = omega (arith, size, short);
     }
@@ -94,7 +96,8 @@ take_behind m xs ys le =
 pub not_long : (stream bytes : List ℕ) → BeginsTooLong stream → BeginsHead stream bytes → ⊥
 not_long stream bytes long begins =
     let behind = take_behind 16384 bytes begins.rest begins.short in
-    let e : None ≡ Some (length bytes) = sym long.1 ∙ ap (λ (l : List ℕ). head_length (take 16384 l)) begins.is ∙ ap head_length behind.1 ∙ found_more bytes behind.0 _ begins.ends in
+    let e : None ≡ Some (length bytes) = sym long.1 ∙ ap (λ (l : List ℕ). head_length (take 16384 l)) begins.is ∙ ap head_length behind.1
+    ∙ found_more bytes behind.0 _ begins.ends in
     absurd cc
 
 pub none_long : (stream : List ℕ) → BeginsTooLong stream → BeginsNone stream
@@ -118,12 +121,14 @@ none_ended stream cut = (
   some_there stream cut.bytes cut.begins,
   λ raw text rest spells begins.
       let same = one_front stream spells.bytes cut.bytes (head_begins raw text rest stream spells begins) cut.begins in
-      let size = one_body cut.bytes spells.head cut.head (length raw.body) cut.body (subst (λ (b : List ℕ). Asks b spells.head (length raw.body)) same spells.asks) cut.asks in
+      let size = one_body cut.bytes spells.head cut.head (length raw.body) cut.body
+      (subst (λ (b : List ℕ). Asks b spells.head (length raw.body)) same spells.asks) cut.asks in
       omega (arith, cut.short, size, ap length same, request_within raw text rest stream spells begins),
 )
 
 -- the head and the body that were read are a request
-pub spells_read : (stream slice : List ℕ) (plan : Plan) (content : List ℕ) (raw : RawRequest) → BeginsHead stream slice → IsPlanOf slice plan → IsRawOf plan.head content raw → length content ≡ plan.body → SpellsRequest raw (slice ++ raw.body)
+pub spells_read : (stream slice : List ℕ) (plan : FramedHead) (content : List ℕ) (raw : RawRequest) → BeginsHead stream slice → IsFramedHead slice plan
+    → IsRawOf plan.head content raw → length content ≡ plan.body → SpellsRequest raw (slice ++ raw.body)
 spells_read stream slice plan content raw begins planned made size = record {
   head = planned.head;
   bytes = slice;
@@ -138,8 +143,10 @@ spells_read stream slice plan content raw begins planned made size = record {
 }
 
 -- what is left when it has been passed over
-pub passed_over : (buffer slice content passed input : List ℕ) (n k : ℕ) → slice ≡ take n buffer → content ≡ take k (drop n buffer) → passed ≡ drop (n + k) buffer → buffer ++ input ≡ (slice ++ content) ++ (passed ++ input)
+pub passed_over : (buffer slice content passed input : List ℕ) (n k : ℕ) → slice ≡ take n buffer → content ≡ take k (drop n buffer)
+    → passed ≡ drop (n + k) buffer → buffer ++ input ≡ (slice ++ content) ++ (passed ++ input)
 passed_over buffer slice content passed input n k head body is =
-    let rest : drop n buffer ≡ content ++ passed = sym (take-append-drop k (drop n buffer)) ∙ ap (λ (l : List ℕ). l ++ drop k (drop n buffer)) (sym body) ∙ ap (λ (l : List ℕ). content ++ l) (drop-drop k n buffer ∙ sym is) in
+    let rest : drop n buffer ≡ content ++ passed = sym (take-append-drop k (drop n buffer)) ∙ ap (λ (l : List ℕ). l ++ drop k (drop n buffer)) (sym body)
+    ∙ ap (λ (l : List ℕ). content ++ l) (drop-drop k n buffer ∙ sym is) in
     let all : buffer ≡ slice ++ (content ++ passed) = sym (take-append-drop n buffer) ∙ (λ i. sym head i ++ rest i) in
     ap (λ (l : List ℕ). l ++ input) all ∙ simp append_assoc

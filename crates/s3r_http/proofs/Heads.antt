@@ -108,7 +108,11 @@ head_found xs ys n h is found long = elim (cases_lt 16384 n) [
 ]
 
 pub head_too_long : (xs ys : List ℕ) → NoneBefore (length xs) xs → 16384 ≤ length xs → HeadIs TooLong (xs ++ ys)
-head_too_long xs ys none le = (omega (arith, le, length-append xs ys), ap head_length (take-append-le 16384 xs ys le) ∙ none_shorter xs 16384 (none_found xs none))
+head_too_long xs ys none le = (
+  omega (arith, le, length-append xs ys),
+  ap head_length (take-append-le 16384 xs ys le)
+      ∙ none_shorter xs 16384 (none_found xs none),
+)
 
 pub head_cut : (xs stream : List ℕ) → stream ≡ xs → NoneBefore (length xs) xs → (length xs ≡ 0 → ⊥) → length xs < 16384 → HeadIs Cut stream
 head_cut xs stream is none some short = record {
@@ -130,7 +134,8 @@ found_front (b ∷ xs) n is = elim (cases_Bool (begins_empty_line (b ∷ xs))) [
       let m = p.0 in
       let within = found_within xs m p.1 in
       let le : 4 ≤ m + 1 = omega (arith, within.0) in
-      let not_here : begins_empty_line (b ∷ take m xs) ≡ false = ap (pointwise nat_eq empty_line) (take-take 4 (suc m) (b ∷ xs) (omega (arith, within.0))) ∙ elsewhere in
+      let not_here : begins_empty_line (b ∷ take m xs) ≡ false = ap (pointwise nat_eq empty_line) (take-take 4 (suc m) (b ∷ xs) (omega (arith, within.0)))
+      ∙ elsewhere in
       let one : head_length (b ∷ take m xs) ≡ Some (m + 1) = skips b (take m xs) not_here ∙ ap (option_map (λ k. k + 1)) (found_front xs m p.1) in
       let next : suc m ≡ n = omega (arith, p.2) in
       subst (λ (k : ℕ). head_length (take k (b ∷ xs)) ≡ Some k) next (one ∙ ap Some (omega arith))

@@ -72,8 +72,10 @@ same_digits (x ∷ xs) (y ∷ ys) size a b same =
     let few : length xs ≡ length ys = omega (arith, size) in
     let w = 10 ^ length xs in
     let less : number_of ys < w = subst (λ k. number_of ys < 10 ^ k) (sym few) (below ys q.1) in
-    let all : (x - 48) * w + number_of xs ≡ (y - 48) * w + number_of ys = sym (first x xs) ∙ same ∙ first y ys ∙ ap (λ k. (y - 48) * 10 ^ k + number_of ys) (sym few) in
-    let front : x - 48 ≡ y - 48 = sym (div-mul-add (x - 48) w (number_of xs) (below xs p.1)) ∙ ap (λ n. n / w) all ∙ div-mul-add (y - 48) w (number_of ys) less in
+    let all : (x - 48) * w + number_of xs ≡ (y - 48) * w + number_of ys =
+    sym (first x xs) ∙ same ∙ first y ys ∙ ap (λ k. (y - 48) * 10 ^ k + number_of ys) (sym few) in
+    let front : x - 48 ≡ y - 48 = sym (div-mul-add (x - 48) w (number_of xs) (below xs p.1)) ∙ ap (λ n. n / w) all
+    ∙ div-mul-add (y - 48) w (number_of ys) less in
     let here : x ≡ y = omega (arith, front, digit_range x p.0, digit_range y q.0) in
     let there = same_digits xs ys few p.1 q.1 (omega (arith, all, ap (λ n. n * w) front)) in
     λ i. here i ∷ there i
@@ -128,7 +130,8 @@ are_digits [] is = refl
 are_digits (d ∷ ds) is = is
 
 -- two numbers are one where they differ in zeros in front alone
-pub number_of-significant : (xs ys : List ℕ) → is_number xs ≡ true → is_number ys ≡ true → bytes_eq (significant xs) (significant ys) ≡ (number_of xs == number_of ys)
+pub number_of-significant : (xs ys : List ℕ) → is_number xs ≡ true → is_number ys ≡ true
+    → bytes_eq (significant xs) (significant ys) ≡ (number_of xs == number_of ys)
 number_of-significant xs ys a b =
     let x = reduces xs in
     let y = reduces ys in

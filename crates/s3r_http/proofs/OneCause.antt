@@ -20,7 +20,8 @@ LengthCause f values = ((f ≡ BadLength) × ((n : ℕ) → SayLength values n �
 
 -- .. a Transfer-Encoding, ..
 abbrev LineCause : HttpFault → List Line → Type 0
-LineCause f lines = ((f ≡ NotImplemented) × (has_line (codes "transfer-encoding") lines ≡ true)) ⊎ ((has_line (codes "transfer-encoding") lines ≡ false) × LengthCause f (values_of (codes "content-length") lines))
+LineCause f lines = ((f ≡ NotImplemented) × (has_line (codes "transfer-encoding") lines ≡ true))
+    ⊎ ((has_line (codes "transfer-encoding") lines ≡ false) × LengthCause f (values_of (codes "content-length") lines))
 
 -- .. the head's form, ..
 abbrev FormCause : HttpFault → List ℕ → Type 0
@@ -28,7 +29,8 @@ FormCause f bytes = ((f ≡ BadHead) × ((h : RequestHead) → IsWholeHead bytes
 
 -- .. and first of all its end.
 abbrev EndCause : HttpFault → List ℕ → Type 0
-EndCause f stream = ((f ≡ HeadTooLong) × BeginsTooLong stream) ⊎ (((f ≡ CutShort) × EndsInHead stream) ⊎ ((bytes : List ℕ) × BeginsHead stream bytes × FormCause f bytes))
+EndCause f stream = ((f ≡ HeadTooLong) × BeginsTooLong stream) ⊎ (((f ≡ CutShort) × EndsInHead stream)
+    ⊎ ((bytes : List ℕ) × BeginsHead stream bytes × FormCause f bytes))
 
 one_size : (f g : HttpFault) (n : ℕ) → SizeCause f n → SizeCause g n → f ≡ g
 one_size f g n (inl a) (inl b) = a.0 ∙ sym b.0

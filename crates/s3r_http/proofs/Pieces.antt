@@ -8,15 +8,19 @@ use Rattle.s3r_http.specs.Input.{ReadsOn}
 regrouped : (old t d post rest : List ℕ) → (old ++ ((t ++ d) ++ post)) ++ rest ≡ (old ++ t) ++ (d ++ (post ++ rest))
 regrouped old t d post rest = simp append_assoc
 
-pub joined : (len k m : ℕ) (old r into post rest input buffer : List ℕ) → take len r ≡ old → length old ≡ len → len + k ≤ m → k ≤ length input → into ≡ take k input ++ drop k buffer → take (len + k) (take m (take len r ++ (into ++ post) ++ rest)) ≡ old ++ take k input
+pub joined : (len k m : ℕ) (old r into post rest input buffer : List ℕ) → take len r ≡ old → length old ≡ len → len + k ≤ m → k ≤ length input
+    → into ≡ take k input ++ drop k buffer → take (len + k) (take m (take len r ++ (into ++ post) ++ rest)) ≡ old ++ take k input
 joined len k m old r into post rest input buffer front is within some taken =
-    take-take (len + k) m _ within ∙ ap (take (len + k)) ((λ i. (front i ++ (taken i ++ post)) ++ rest) ∙ regrouped old (take k input) (drop k buffer) post rest)
+    take-take (len + k) m _ within ∙ ap (take (len + k)) ((λ i. (front i ++ (taken i ++ post)) ++ rest)
+    ∙ regrouped old (take k input) (drop k buffer) post rest)
     ∙ take_at (old ++ take k input) _ (len + k) (omega (arith, length-append old (take k input), length-take-le k input some, is))
 
 -- the piece that was taken
-pub reads_piece : (before after buffer into : List ℕ) (k : ℕ) (a b : Outside) → after ≡ before ++ take k a.input → Takes buffer into (Ok k) a b → ReadsOn before after a b
+pub reads_piece : (before after buffer into : List ℕ) (k : ℕ) (a b : Outside) → after ≡ before ++ take k a.input → Takes buffer into (Ok k) a b
+    → ReadsOn before after a b
 reads_piece before after buffer into k a b is took = record {
-  stream = ap (λ (l : List ℕ). l ++ b.input) is ∙ ap (λ (l : List ℕ). (before ++ take k a.input) ++ l) took.ok ∙ append_assoc before (take k a.input) (drop k a.input) ∙ ap (λ (l : List ℕ). before ++ l) (take-append-drop k a.input);
+  stream = ap (λ (l : List ℕ). l ++ b.input) is ∙ ap (λ (l : List ℕ). (before ++ take k a.input) ++ l) took.ok
+      ∙ append_assoc before (take k a.input) (drop k a.input) ∙ ap (λ (l : List ℕ). before ++ l) (take-append-drop k a.input);
   connections = took.connections;
   volumes = took.volumes;
 }

@@ -19,11 +19,13 @@ fields_back (field ∷ fields) = ap (λ (l : List Field). field ∷ l) (fields_b
 same_fields : (xs ys : List Field) → map line_of xs ≡ map line_of ys → xs ≡ ys
 same_fields xs ys same = sym (fields_back xs) ∙ ap (map field_of) same ∙ fields_back ys
 
-pub same_parts : (raw other : RawRequest) → raw.method ≡ other.method → raw.target ≡ other.target → raw.fields ≡ other.fields → raw.body ≡ other.body → raw.last ≡ other.last → raw ≡ other
+pub same_parts : (raw other : RawRequest) → raw.method ≡ other.method → raw.target ≡ other.target → raw.fields ≡ other.fields → raw.body ≡ other.body
+    → raw.last ≡ other.last → raw ≡ other
 same_parts raw other method target fields body last =
     λ i. record { method = method i; target = target i; fields = fields i; body = body i; last = last i }
 
-pub one : (raw other : RawRequest) (text text' rest rest' : List ℕ) → SpellsRequest raw text → SpellsRequest other text' → text ++ rest ≡ text' ++ rest' → (raw ≡ other) × (text ≡ text')
+pub one : (raw other : RawRequest) (text text' rest rest' : List ℕ) → SpellsRequest raw text → SpellsRequest other text' → text ++ rest ≡ text' ++ rest'
+    → (raw ≡ other) × (text ≡ text')
 one raw other text text' rest rest' a b same =
     let stream = text ++ rest in
     let bytes : a.bytes ≡ b.bytes = one_front stream a.bytes b.bytes (head_begins raw text rest stream a refl) (head_begins other text' rest' stream b same) in

@@ -4,7 +4,7 @@ pub mod Input
 pub mod Lengths
 pub mod Lines
 pub mod Parsed
-pub mod Plans
+pub mod FramedHeads
 pub mod Refusals
 pub mod Request
 pub mod Response

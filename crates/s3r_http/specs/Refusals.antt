@@ -18,7 +18,8 @@ pub record BeginsHead (stream bytes : List ℕ) : Type 0 where
 abbrev pub LinesCause : HttpFault → List Line → Type 0
 LinesCause NotImplemented lines = has_line (codes "transfer-encoding") lines ≡ true
 LinesCause BadLength lines = (has_line (codes "transfer-encoding") lines ≡ false) × ((n : ℕ) → SayLength (values_of (codes "content-length") lines) n → ⊥)
-LinesCause EntityTooLarge lines = (has_line (codes "transfer-encoding") lines ≡ false) × (n : ℕ) × SayLength (values_of (codes "content-length") lines) n × (4194304 < n)
+LinesCause EntityTooLarge lines = (has_line (codes "transfer-encoding") lines ≡ false) × (n : ℕ) × SayLength (values_of (codes "content-length") lines) n
+    × (4194304 < n)
 LinesCause OutOfMemory lines = ⊤
 LinesCause fault lines = ⊥
 

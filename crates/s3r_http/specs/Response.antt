@@ -26,4 +26,5 @@ last_line last = if last then line (codes "Connection: close") else []
 
 -- an answer: its status, its lines, an empty line, and the body where the request wasn't HEAD
 abbrev pub response_text : ℕ → List Field → List ℕ → Bool → Bool → List ℕ
-response_text status fields body head last = status_line status ++ length_line status body ++ flat_map field_line fields ++ last_line last ++ line [] ++ (if head then [] else body)
+response_text status fields body head last = status_line status ++ length_line status body ++ flat_map field_line fields ++ last_line last ++ line []
+    ++ (if head then [] else body)

@@ -7,7 +7,8 @@ ghost use Rattle.s3r_http.specs.declared.message.RawRequest.{RawRequest};
 
 /// One request stands at the front of bytes, at most.
 pub fn one_request()
-    ensures { (raw other : RawRequest) (text text' rest rest' : List ℕ) → SpellsRequest raw text → SpellsRequest other text' → text ++ rest ≡ text' ++ rest' → (raw ≡ other) × (text ≡ text') }
+    ensures { (raw other : RawRequest) (text text' rest rest' : List ℕ) → SpellsRequest raw text → SpellsRequest other text' → text ++ rest ≡ text' ++ rest'
+        → (raw ≡ other) × (text ≡ text') }
 {}
 
 /// The text of a request has bytes.

@@ -18,7 +18,7 @@ use std::alloc::{AllocError, Global};
 #[derive(Drop)]
 pub struct ParsedHead {
     pub method: Method,
-    pub target: Bytes,
+    pub target: Text,
     pub minor: u8,
     pub fields: Vec<Field>,
 }
@@ -75,7 +75,7 @@ pub fn parse_head(alloc: Global, bytes: &[u8]) -> Result<ParsedHead, HttpFault>
     let Ok(method) = method_of(alloc, method.as_bytes()) else {
         return Err(HttpFault::OutOfMemory);
     };
-    let Ok(target) = Bytes::from_slice(alloc, path.as_bytes()) else {
+    let Ok(target) = Text::from_str(alloc, path) else {
         return Err(HttpFault::OutOfMemory);
     };
     let Ok(fields) = fields_of(alloc, request.headers) else {

@@ -47,7 +47,7 @@ impl Fields {
 #[derive(Debug, Drop)]
 pub struct RawRequest {
     pub method: Method,
-    pub target: Bytes,
+    pub target: Text,
     pub fields: Fields,
     pub body: Bytes,
     /// No request follows on its connection.

@@ -5,7 +5,7 @@ ghost use Rattle.s3r_http.specs.Input.{ReadsOn};
 ghost use Rattle.s3r_http.specs.Lines.{line_of};
 ghost use Rattle.s3r_http.specs.Request.{AsksBody, SpellsRequest, ReadsSome, BeginsNone};
 ghost use Rattle.s3r_http.specs.Refusals.{LinesCause, HeadCause, IsCause};
-ghost use Rattle.s3r_http.specs.Plans.{IsPlanOf, IsRawOf};
+ghost use Rattle.s3r_http.specs.FramedHeads.{IsFramedHead, IsRawOf};
 ghost use Rattle.s3r_http.specs.declared.message.RawRequest.{RawRequest};
 
 use crate::buffer::{Buffer, ReadFault};
@@ -19,7 +19,7 @@ use std::alloc::Global;
 
 // A head, and how long the body behind it is.
 #[derive(Drop)]
-pub struct Plan {
+pub struct FramedHead {
     pub head: ParsedHead,
     pub body: usize,
 }
@@ -44,14 +44,14 @@ fn body_length(alloc: Global, fields: &[Field]) -> Result<usize, HttpFault>
 }
 
 // What a head asks for.
-fn plan_of(alloc: Global, bytes: &[u8]) -> Result<Plan, HttpFault>
-    ensures plan { IfOk result (IsPlanOf bytes.now) }
+fn framed_head(alloc: Global, bytes: &[u8]) -> Result<FramedHead, HttpFault>
+    ensures plan { IfOk result (IsFramedHead bytes.now) }
     ensures cause { IfErr result (λ fault. HeadCause fault bytes.now) }
     ensures input { IsErrOf result HttpFault.Input → ⊥ }
 {
     let head = parse_head(alloc, bytes)?;
     match body_length(alloc, &head.fields) {
-        Ok(body) => Ok(Plan { head, body }),
+        Ok(body) => Ok(FramedHead { head, body }),
         Err(fault) => {
             drop(head);
             Err(fault)
@@ -95,7 +95,8 @@ fn raw_of(head: ParsedHead, body: Bytes) -> RawRequest
 
 /// Whether a byte follows. No byte is passed over, and where the buffer holds one, no input is taken.
 pub fn has_more<W: World>(world: &mut W, buffer: &mut Buffer) -> Result<bool, HttpFault>
-    ensures more { IsTrue W.tells → IfOk result (λ more. MatchBool more (buffer.old ++ (W.outside world.old).input ≢ []) (buffer.old ++ (W.outside world.old).input ≡ [])) }
+    ensures more { IsTrue W.tells → IfOk result (λ more. MatchBool more (buffer.old ++ (W.outside world.old).input ≢ [])
+        (buffer.old ++ (W.outside world.old).input ≡ [])) }
     ensures faults { IfErr result (λ fault. (fault ≡ HttpFault.Input) ⊎ (fault ≡ HttpFault.OutOfMemory)) }
     ensures kept { IsTrue W.tells → buffer.new ++ (W.outside world.new).input ≡ buffer.old ++ (W.outside world.old).input }
     ensures held { buffer.old ≢ [] → (buffer.new ≡ buffer.old) × (world.new ≡ world.old) }
@@ -123,11 +124,13 @@ pub fn read_request<W: World>(
     ensures small { IfOk result (λ raw. IfSome raw (λ asked. length asked.body ≤ 4194304)) }
     // Each refusal has its cause, and no request stands at the front then.
     ensures cause { IsTrue W.tells → IfErr result (λ fault. IsCause fault (buffer.old ++ (W.outside world.old).input)) }
-    ensures refused { IsTrue W.tells → IfErr result (λ fault. (fault ≡ HttpFault.Input) ⊎ ((fault ≡ HttpFault.OutOfMemory) ⊎ BeginsNone (buffer.old ++ (W.outside world.old).input))) }
+    ensures refused { IsTrue W.tells → IfErr result (λ fault. (fault ≡ HttpFault.Input)
+        ⊎ ((fault ≡ HttpFault.OutOfMemory) ⊎ BeginsNone (buffer.old ++ (W.outside world.old).input))) }
 
     // An error passes over nothing. Where the input failed, what was taken isn't a whole request.
     ensures kept { IsTrue W.tells → OnErr result (buffer.new ++ (W.outside world.new).input ≡ buffer.old ++ (W.outside world.old).input) }
-    ensures incomplete { IsTrue W.tells → IsErrOf result HttpFault.Input → (raw : RawRequest) (text rest : List ℕ) → SpellsRequest raw text → buffer.new ≡ text ++ rest → ⊥ }
+    ensures incomplete { IsTrue W.tells → IsErrOf result HttpFault.Input → (raw : RawRequest) (text rest : List ℕ) → SpellsRequest raw text
+        → buffer.new ≡ text ++ rest → ⊥ }
 
     ensures connections { IsTrue W.tells → (W.outside world.new).connections ≡ (W.outside world.old).connections }
     ensures volumes { IsTrue W.tells → KeepsVolumes (W.outside world.old) (W.outside world.new) }
@@ -142,7 +145,7 @@ pub fn read_request<W: World>(
         Head::Cut => return Err(HttpFault::CutShort),
         Head::TooLong => return Err(HttpFault::HeadTooLong),
     };
-    let plan = plan_of(alloc, &buffer.as_slice()[..length])?;
+    let plan = framed_head(alloc, &buffer.as_slice()[..length])?;
     let whole = length + plan.body;
     if !fill_to(world, buffer, whole)? {
         return Err(HttpFault::CutShort);

@@ -43,7 +43,8 @@ module _ (front : List ℕ) (gate : ℕ) (rest : List ℕ) (end : ℕ) (place : 
       let begins : take end b ≡ front = torn.before ∙ ap (take end) is ∙ front_is in
       let ends : drop (end + 1) b ≡ rest = torn.after ∙ ap (drop (end + 1)) is ∙ rest_is in
       let within : end < length b = omega (arith, torn.no_shorter, ap length is, long) in
-      sym (take-append-drop end b) ∙ ap (λ (l : List ℕ). l ++ drop end b) begins ∙ ap (λ (l : List ℕ). front ++ l) (drop_more b end 0 within ∙ ap (λ (l : List ℕ). get_or b end 0 ∷ l) ends)
+      sym (take-append-drop end b) ∙ ap (λ (l : List ℕ). l ++ drop end b) begins
+      ∙ ap (λ (l : List ℕ). front ++ l) (drop_more b end 0 within ∙ ap (λ (l : List ℕ). get_or b end 0 ∷ l) ends)
 
   -- a write of the gate
   pub held_gate : (a b : List ℕ) → a ≡ front ++ gate ∷ rest → Holds end (1 ∷ []) a b → b ≡ front ++ 1 ∷ rest
@@ -58,21 +59,23 @@ held_long at bytes a b holds le =
 pub records-push : (h : List (List ℕ)) (s : List ℕ) → records (h ++ s ∷ []) ≡ records h ++ (1 ∷ to_be_bytes w32 (length s) ++ s)
 records-push [] s = append-nil (1 ∷ to_be_bytes w32 (length s) ++ s)
 records-push (x ∷ h) s =
-    ap (λ (l : List ℕ). (1 ∷ to_be_bytes w32 (length x) ++ x) ++ l) (records-push h s) ∙ sym (append_assoc (1 ∷ to_be_bytes w32 (length x) ++ x) (records h) (1 ∷ to_be_bytes w32 (length s) ++ s))
+    ap (λ (l : List ℕ). (1 ∷ to_be_bytes w32 (length x) ++ x) ++ l) (records-push h s)
+    ∙ sym (append_assoc (1 ∷ to_be_bytes w32 (length x) ++ x) (records h) (1 ∷ to_be_bytes w32 (length s) ++ s))
 
 pub short-push : (h : List (List ℕ)) (s : List ℕ) → AreShort h → length s ≤ 16777216 → AreShort (h ++ s ∷ [])
 short-push [] s short le = (le, tt)
 short-push (x ∷ h) s short le = (short.0, short-push h s short.1 le)
 
 -- behind an open gate the frame is a record more
-pub stands_more : (region format end : ℕ) (h : List (List ℕ)) (s tail b : List ℕ) → length (header region format ++ records h) ≡ end → AreShort h → length s ≤ 16777216 → b ≡ (header region format ++ records h) ++ 1 ∷ (frame_of s ++ tail) → StandsTo region (h ++ s ∷ []) (end + length s + 5) b
+pub stands_more : (region format end : ℕ) (h : List (List ℕ)) (s tail b : List ℕ) → length (header region format ++ records h) ≡ end →
+    AreShort h → length s ≤ 16777216 → b ≡ (header region format ++ records h) ++ 1 ∷ (frame_of s ++ tail) →
+    StandsTo region format (h ++ s ∷ []) (end + length s + 5) b
 stands_more region format end h s tail b place short le is =
     let four = to_be_bytes w32 (length s) in
     let more = 1 ∷ four ++ s in
     let all : header region format ++ records (h ++ s ∷ []) ≡ (header region format ++ records h) ++ more =
     ap (λ (l : List ℕ). header region format ++ l) (records-push h s) ∙ sym (append_assoc (header region format) (records h) more) in
     record {
-      format = format;
       gate = 0;
       rest = tail;
       closed = omega arith;
@@ -84,12 +87,11 @@ stands_more region format end h s tail b place short le is =
 
 -- the closed gate stands in each outcome of the first write
 pub keeps_behind : (end n : ℕ) (s a b : List ℕ) → Torn (end + 1) n a b → MayAppend end s a b
-keeps_behind end n s a b torn region h stands = inl (record {
-  format = stands.format;
+keeps_behind end n s a b torn region format h stands = inl (record {
   gate = stands.gate;
   rest = drop (end + 1) b;
   closed = stands.closed;
-  whole = torn_behind (header region stands.format ++ records h) stands.gate stands.rest end stands.place n a b stands.whole torn;
+  whole = torn_behind (header region format ++ records h) stands.gate stands.rest end stands.place n a b stands.whole torn;
   place = stands.place;
   short = stands.short;
 })
@@ -97,19 +99,20 @@ keeps_behind end n s a b torn region h stands = inl (record {
 module _ (end : ℕ) (s : List ℕ) (le : length s ≤ 16777216) where
   -- the gate opens or it doesn't
   pub may_open : (a m b : List ℕ) → Holds (end + 1) (frame_of s) a m → Torn end 1 m b → MayAppend end s a b
-  may_open a m b holds torn region h stands =
-      let front = header region stands.format ++ records h in
+  may_open a m b holds torn region format h stands =
+      let front = header region format ++ records h in
       let tail = drop (end + 1 + length (frame_of s)) a in
       let staged = held_behind front stands.gate stands.rest end stands.place (frame_of s) a m stands.whole holds in
       let is = torn_gate front stands.gate (frame_of s ++ tail) end stands.place m b staged torn in
       elim (cases_eq (get_or b end 0) 1) [
-        | inl open_gate ↦ inr (stands_more region stands.format end h s tail b stands.place stands.short le (is ∙ ap (λ (g : ℕ). front ++ g ∷ (frame_of s ++ tail)) open_gate))
-        | inr shut ↦ inl (record { format = stands.format; gate = get_or b end 0; rest = frame_of s ++ tail; closed = shut; whole = is; place = stands.place; short = stands.short })
+        | inl open_gate ↦
+            inr (stands_more region format end h s tail b stands.place stands.short le (is ∙ ap (λ (g : ℕ). front ++ g ∷ (frame_of s ++ tail)) open_gate))
+        | inr shut ↦ inl (record { gate = get_or b end 0; rest = frame_of s ++ tail; closed = shut; whole = is; place = stands.place; short = stands.short })
       ]
 
   pub opens : (a m b : List ℕ) → Holds (end + 1) (frame_of s) a m → Holds end (1 ∷ []) m b → Appends end s a b
-  opens a m b holds gate region h stands =
-      let front = header region stands.format ++ records h in
+  opens a m b holds gate region format h stands =
+      let front = header region format ++ records h in
       let tail = drop (end + 1 + length (frame_of s)) a in
       let staged = held_behind front stands.gate stands.rest end stands.place (frame_of s) a m stands.whole holds in
-      stands_more region stands.format end h s tail b stands.place stands.short le (held_gate front stands.gate (frame_of s ++ tail) end stands.place m b staged gate)
+      stands_more region format end h s tail b stands.place stands.short le (held_gate front stands.gate (frame_of s ++ tail) end stands.place m b staged gate)

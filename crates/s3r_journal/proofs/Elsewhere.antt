@@ -8,12 +8,21 @@ use Rattle.s3r_journal.specs.Step.{IsReady, IsVacant}
 use Rattle.s3r_journal.specs.Leaves.{Leaves}
 
 -- a call on another volume
-pub left_elsewhere : (v u : ℕ) (R S : List ℕ → List ℕ → Type 0) (a b : Outside) → u ≢ v → Follows (OnVolume v R) a.images b.images → OnVolume v S a.as_read b.as_read → Leaves u a b
-left_elsewhere v u R S a b ne follows read = record { as_read = read.elsewhere u ne; images = λ c now. let from = follows c now in (from.0, from.1, from.2.elsewhere u ne) }
+pub left_elsewhere : (v u : ℕ) (R S : List ℕ → List ℕ → Type 0) (a b : Outside) → u ≢ v → Follows (OnVolume v R) a.images b.images
+    → OnVolume v S a.as_read b.as_read → Leaves u a b
+left_elsewhere v u R S a b ne follows read = record {
+  as_read = read.elsewhere u ne;
+  images = λ c now. let from = follows c now in
+      (from.0, from.1, from.2.elsewhere u ne);
+}
 
 -- bytes were put out
 pub left_put : (u : ℕ) (bytes : List ℕ) (result : Result ℕ OutputFault) (a b : Outside) → Emits bytes result a b → Leaves u a b
-left_put u bytes result a b put = record { as_read = put.as_read.volumes u; images = λ c now. let from = put.images c now in (from.0, from.1, from.2.volumes u) }
+left_put u bytes result a b put = record {
+  as_read = put.as_read.volumes u;
+  images = λ c now. let from = put.images c now in
+      (from.0, from.1, from.2.volumes u);
+}
 
 -- no volume was written
 pub left_keeps : (u : ℕ) (a b : Outside) → KeepsVolumes a b → Leaves u a b
@@ -33,7 +42,8 @@ module _ (u : ℕ) (a b : Outside) (left : Leaves u a b) where
   vacant_left vacant = record { stable = stable_left vacant.stable; empty = subst IsEmptyVolume (sym left.as_read) vacant.empty }
 
 -- what stays ready while another volume is written, and while bytes are put out
-pub ready_elsewhere : (v u end : ℕ) (R S : List ℕ → List ℕ → Type 0) (a b : Outside) → u ≢ v → Follows (OnVolume v R) a.images b.images → OnVolume v S a.as_read b.as_read → IsReady u end a → IsReady u end b
+pub ready_elsewhere : (v u end : ℕ) (R S : List ℕ → List ℕ → Type 0) (a b : Outside) → u ≢ v → Follows (OnVolume v R) a.images b.images
+    → OnVolume v S a.as_read b.as_read → IsReady u end a → IsReady u end b
 ready_elsewhere v u end R S a b ne follows read ready = ready_left u a b (left_elsewhere v u R S a b ne follows read) end ready
 
 pub ready_put : (v end : ℕ) (bytes : List ℕ) (result : Result ℕ OutputFault) (a b : Outside) → Emits bytes result a b → IsReady v end a → IsReady v end b

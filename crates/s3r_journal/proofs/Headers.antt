@@ -19,8 +19,8 @@ same_first (x ∷ a) [] is = cc
 same_first (x ∷ a) (y ∷ b) is = cc
 
 -- the header, its gate open, and a closed gate
-stands_new : (region : ℕ) (tail b : List ℕ) → b ≡ 1 ∷ (header_frame region ++ tail) → StandsTo region [] 16 b
-stands_new region tail b is = record { format = 1; gate = 0; rest = tail; closed = omega arith; whole = is; place = refl; short = tt }
+stands_new : (region : ℕ) (tail b : List ℕ) → b ≡ 1 ∷ (header_frame region ++ tail) → StandsTo region 1 [] 16 b
+stands_new region tail b is = record { gate = 0; rest = tail; closed = omega arith; whole = is; place = refl; short = tt }
 
 module _ (region : ℕ) where
   header_staged : (a b : List ℕ) → Torn 1 16 a b → MayOpen region a b
@@ -33,7 +33,8 @@ module _ (region : ℕ) where
   header_may : (a m b : List ℕ) → Holds 1 (header_frame region) a m → Torn 0 1 m b → MayOpen region a b
   header_may a m b holds torn shut =
       let tail = drop 17 a in
-      let staged : m ≡ [] ++ get_or a 0 0 ∷ (header_frame region ++ tail) = held_behind [] (get_or a 0 0) (drop 1 a) 0 refl (header_frame region) a m (parts a shut.long) holds in
+      let staged : m ≡ [] ++ get_or a 0 0 ∷ (header_frame region ++ tail) =
+      held_behind [] (get_or a 0 0) (drop 1 a) 0 refl (header_frame region) a m (parts a shut.long) holds in
       let is : b ≡ [] ++ get_or b 0 0 ∷ (header_frame region ++ tail) = torn_gate [] (get_or a 0 0) (header_frame region ++ tail) 0 refl m b staged torn in
       elim (cases_eq (get_or b 0 0) 1) [
         | inl open_gate ↦ inr (stands_new region tail b (is ∙ ap (λ (g : ℕ). g ∷ (header_frame region ++ tail)) open_gate))
@@ -43,15 +44,18 @@ module _ (region : ℕ) where
   header_opens : (a m b : List ℕ) → Holds 1 (header_frame region) a m → Holds 0 (1 ∷ []) m b → Opens region a b
   header_opens a m b holds gate shut =
       let tail = drop 17 a in
-      let staged : m ≡ [] ++ get_or a 0 0 ∷ (header_frame region ++ tail) = held_behind [] (get_or a 0 0) (drop 1 a) 0 refl (header_frame region) a m (parts a shut.long) holds in
+      let staged : m ≡ [] ++ get_or a 0 0 ∷ (header_frame region ++ tail) =
+      held_behind [] (get_or a 0 0) (drop 1 a) 0 refl (header_frame region) a m (parts a shut.long) holds in
       stands_new region tail b (held_gate [] (get_or a 0 0) (header_frame region ++ tail) 0 refl m b staged gate)
 
   module _ (v : ℕ) (old mid : Outside) where
     pub open_not : WritesThrough v 1 (header_frame region) false old mid → Changed v 16 (MayOpen region) (Opens region) false old mid
     open_not w = changes_not v 0 16 (header_frame region) (MayOpen region) (Opens region) old mid header_staged w
 
-    pub open_both : (new : Outside) (ok : Bool) → IsReady v 0 old → WritesThrough v 1 (header_frame region) true old mid → WritesThrough v 0 (1 ∷ []) ok mid new → Changed v 16 (MayOpen region) (Opens region) ok old new
-    open_both new ok ready first second = changes v 0 16 (header_frame region) (MayOpen region) (Opens region) old mid header_staged header_may header_opens (omega arith) new ok ready first second
+    pub open_both : (new : Outside) (ok : Bool) → IsReady v 0 old → WritesThrough v 1 (header_frame region) true old mid
+        → WritesThrough v 0 (1 ∷ []) ok mid new → Changed v 16 (MayOpen region) (Opens region) ok old new
+    open_both new ok ready first second = changes v 0 16 (header_frame region) (MayOpen region) (Opens region) old mid header_staged header_may header_opens
+        (omega arith) new ok ready first second
 
     still_empty : (d c : Image) → OnVolume v (λ a b. IsEmptyVolume a → IsEmptyVolume b) d c → OnVolume v (MayCreate region) d c
     still_empty d c on = on_weaker v _ (MayCreate region) d c (λ keeps empty. inl (keeps empty)) on
@@ -71,10 +75,12 @@ module _ (region : ℕ) where
       shut_image : (m : Image) → mid.images m → IsShut (m.volume v)
       shut_image m now = subst IsShut (sym (first.stable refl m now)) (first.shut refl)
 
-      may_follow : (d m c : Image) → IsShut (m.volume v) → OnVolume v (λ a b. IsEmptyVolume a → IsEmptyVolume b) d m → OnVolume v (MayOpen region) m c → OnVolume v (MayCreate region) d c
+      may_follow : (d m c : Image) → IsShut (m.volume v) → OnVolume v (λ a b. IsEmptyVolume a → IsEmptyVolume b) d m → OnVolume v (MayOpen region) m c
+          → OnVolume v (MayCreate region) d c
       may_follow d m c shut one two = on_then v _ _ (MayCreate region) d m c (λ keeps may empty. may shut) one two
 
-      does_follow : (d m c : Image) → IsShut (m.volume v) → OnVolume v (λ a b. IsEmptyVolume a → IsEmptyVolume b) d m → OnVolume v (Opens region) m c → OnVolume v (Creates region) d c
+      does_follow : (d m c : Image) → IsShut (m.volume v) → OnVolume v (λ a b. IsEmptyVolume a → IsEmptyVolume b) d m → OnVolume v (Opens region) m c
+          → OnVolume v (Creates region) d c
       does_follow d m c shut one two = on_then v _ _ (Creates region) d m c (λ keeps does empty. does shut) one two
 
       going_on : (c : Image) → Reached (OnVolume v (MayOpen region)) mid.images c → Reached (OnVolume v (MayCreate region)) old.images c
@@ -82,10 +88,12 @@ module _ (region : ℕ) where
 
       pub create_both : Created v region ok old new
       create_both = record {
-        time = elapses_then old mid new _ (elapses_weaker old mid _ _ first.time (λ c (d, was, on). (d, was, still_empty d c on))) (elapses_weaker mid new _ _ second.time going_on);
+        time = elapses_then old mid new _ (elapses_weaker old mid _ _ first.time (λ c (d, was, on). (d, was, still_empty d c on)))
+            (elapses_weaker mid new _ _ second.time going_on);
         images = λ c now. going_on c (second.images c now);
         as_read = may_follow old.as_read mid.as_read new.as_read (first.shut refl) first.as_read second.as_read;
-        done = λ t c now. let here = second.done t c now in let from = first.images here.0 here.1 in (from.0, from.1, does_follow from.0 here.0 c (shut_image here.0 here.1) from.2 here.2);
+        done = λ t c now. let here = second.done t c now in let from = first.images here.0 here.1 in
+            (from.0, from.1, does_follow from.0 here.0 c (shut_image here.0 here.1) from.2 here.2);
         read = λ t. does_follow old.as_read mid.as_read new.as_read (first.shut refl) first.as_read (second.read t);
         ready = second.ready;
         input = keeps_then old mid new first.input second.input;

@@ -1,7 +1,10 @@
-mod Buffers
 mod Bytes
 pub mod Elsewhere
 mod Finds
+pub mod Formats
 pub mod Fronts
 mod Gated
 mod Headers
+mod Pieces
+mod Tells
+pub mod Windows

@@ -24,8 +24,8 @@ pub record Shuts (v : ℕ) (ok : Bool) (old new : Outside) : Type 0 where
 
 -- a closed header gate was opened over the header
 abbrev pub Opens : ℕ → List ℕ → List ℕ → Type 0
-Opens region old new = IsShut old → StandsTo region [] 16 new
+Opens region old new = IsShut old → StandsTo region 1 [] 16 new
 
 -- or the volume is empty
 abbrev pub MayOpen : ℕ → List ℕ → List ℕ → Type 0
-MayOpen region old new = IsShut old → IsEmptyVolume new ⊎ StandsTo region [] 16 new
+MayOpen region old new = IsShut old → IsEmptyVolume new ⊎ StandsTo region 1 [] 16 new

@@ -7,3 +7,4 @@ pub mod Pieces
 pub mod Scan
 pub mod Step
 pub mod Volume
+pub mod Windows

@@ -37,7 +37,8 @@ abbrev pub IsThere : ℕ → List ℕ → Result Scanned ScanFault → Type 0
 IsThere at rest (Ok Empty) = ⊥
 IsThere at rest (Ok (End gate)) = (gate ≡ at) × IsHead rest Closed
 IsThere at rest (Ok (Record bytes next)) =
-    (next ≡ at + 5 + length bytes.items) × (length bytes.items ≤ 16777216) × ((behind : List ℕ) × (rest ≡ 1 ∷ to_be_bytes w32 (length bytes.items) ++ bytes.items ++ behind))
+    (next ≡ at + 5 + length bytes.items) × (length bytes.items ≤ 16777216)
+    × ((behind : List ℕ) × (rest ≡ 1 ∷ to_be_bytes w32 (length bytes.items) ++ bytes.items ++ behind))
 IsThere at rest (Err (Volume u)) = Unit {0}
 IsThere at rest (Err (Damaged u offset)) = (offset ≡ at) × (IsHead rest Cut ⊎ ((n : ℕ) × IsHead rest (Open n) × ((16777216 < n) ⊎ (length rest < 5 + n))))
 IsThere at rest (Err OutOfMemory) = Unit {0}

@@ -1,5 +1,5 @@
 -- What a scan finds in the bytes of a volume.
-use Rattle.std.specs.Prelude.{◌≡◌, ◌⊎◌, ◌==◌, ℕ, ◌+◌, Bool, not, ◌&&◌, ◌||◌, if◌then◌else◌, nat_le, nat_lt, ◌≤◌, List, [], ◌∷◌, ◌++◌, length, take, drop, slice_index, Result, Ok, Err, IfOk}
+use Rattle.std.specs.Prelude.{◌≡◌, ◌⊎◌, ◌==◌, ℕ, ◌+◌, ◌&&◌, if◌then◌else◌, nat_le, ◌≤◌, List, [], ◌∷◌, ◌++◌, length, take, drop, Result, Ok, Err, IfOk}
 use Rattle.std.specs.Int.{from_be_bytes, w32}
 use Rattle.std.specs.Str.{bytes_eq}
 use Rattle.s3r_world.specs.Outside.{Outside, Looks, IsStable, Counts, Rises}
@@ -7,7 +7,7 @@ use Rattle.s3r_journal.specs.declared.scanning.Scanned.{Scanned}
 use Rattle.s3r_journal.specs.declared.scanning.Scanned.TheVariants.{Empty, End, Record}
 use Rattle.s3r_journal.specs.declared.scanning.ScanFault.{ScanFault}
 use Rattle.s3r_journal.specs.declared.scanning.ScanFault.TheVariants.{Volume, Damaged, OutOfMemory}
-use Rattle.s3r_journal.specs.Volume.{label, IsEmptyVolume, Front, StandsTo, Stands}
+use Rattle.s3r_journal.specs.Volume.{label, IsEmptyVolume, is_empty_volume, Front, StandsTo, Stands}
 use Rattle.s3r_journal.specs.Step.{IsReady, IsVacant}
 
 -- what is at a place: no header yet, no record that is whole, a closed gate, or a record and the next place
@@ -26,12 +26,10 @@ abbrev pub found_in : ℕ → List ℕ → Finding
 found_in at [] = damaged_at at
 found_in at (gate ∷ behind) = if gate == 1 then record_of at (from_be_bytes w32 (take 4 behind)) behind else end_at at
 
-abbrev pub is_empty_volume : List ℕ → Bool
-is_empty_volume bytes = nat_lt (length bytes) 16 || not (slice_index bytes 0 == 1)
-
 -- what is in a volume, by its header and the bytes behind it
 abbrev pub first_in : ℕ → List ℕ → Finding
-first_in region bytes = if is_empty_volume bytes then no_header else (if bytes_eq (take 14 (drop 1 bytes)) (label region) then found_in 16 (drop 16 bytes) else damaged_at 1)
+first_in region bytes = if is_empty_volume bytes then no_header else (if bytes_eq (take 14 (drop 1 bytes)) (label region) then found_in 16
+    (drop 16 bytes) else damaged_at 1)
 
 -- What a scan from a place on finds. It reads the header where the records begin.
 abbrev pub finding : ℕ → ℕ → List ℕ → Finding
@@ -54,7 +52,7 @@ IsReadTo region h at bytes = ((h ≡ []) × (at ≡ 16)) ⊎ Front region h at b
 -- that they stand for nothing.
 abbrev pub ReadsOn : ℕ → List (List ℕ) → ℕ → List ℕ → Result Scanned ScanFault → Type 0
 ReadsOn region h from bytes (Ok Empty) = (h ≡ []) × IsEmptyVolume bytes
-ReadsOn region h from bytes (Ok (End at)) = (at ≡ from) × StandsTo region h at bytes
+ReadsOn region h from bytes (Ok (End at)) = (at ≡ from) × (format : ℕ) × StandsTo region format h at bytes
 ReadsOn region h from bytes (Ok (Record r next)) = Front region (h ++ r.items ∷ []) next bytes
 ReadsOn region h from bytes (Err (Volume u)) = Unit {0}
 ReadsOn region h from bytes (Err (Damaged u at)) = (k : List (List ℕ)) → Stands region k bytes → ⊥
@@ -78,6 +76,12 @@ abbrev pub HasCause : ℕ → ScanFault → Counts → Counts → Type 0
 HasCause v (Volume u) old new = (u ≡ v) × Rises 1 (old.volume v) (new.volume v)
 HasCause v (Damaged u at) old new = u ≡ v
 HasCause v OutOfMemory old new = Unit {0}
+
+-- a fault of the volume was counted, or there was no memory
+abbrev pub HasFailed : ℕ → ScanFault → Counts → Counts → Type 0
+HasFailed v (Volume u) old new = (u ≡ v) × Rises 1 (old.volume v) (new.volume v)
+HasFailed v (Damaged u at) old new = ⊥
+HasFailed v OutOfMemory old new = Unit {0}
 
 -- scans in turn from this place on find these spellings, and then the end
 abbrev pub ScansTo : ℕ → List (List ℕ) → ℕ → ℕ → List ℕ → Type 0

@@ -1,5 +1,6 @@
 -- What the bytes of a volume stand for.
-use Rattle.std.specs.Prelude.{◌≡◌, ◌≢◌, ◌⊎◌, ℕ, ◌+◌, ◌-◌, ◌<◌, ◌≤◌, List, [], ◌∷◌, ◌++◌, length, take, drop, slice_index}
+use Rattle.std.specs.Prelude.{◌≡◌, ◌≢◌, ◌⊎◌, ◌==◌, ℕ, ◌+◌, ◌-◌, ◌<◌, ◌≤◌, Bool, not, ◌||◌, nat_lt}
+use Rattle.std.specs.Prelude.{List, [], ◌∷◌, ◌++◌, length, take, drop, slice_index}
 use Rattle.std.specs.Int.{to_be_bytes, w32}
 
 -- the bytes between a header's gate and its format: S3RVOL, the region's digit and zeros
@@ -41,9 +42,9 @@ pub record Front (region : ℕ) (spellings : List (List ℕ)) (at : ℕ) (bytes 
   pub place : length (header region format ++ records spellings) ≡ at
   pub short : AreShort spellings
 
--- The volume's header gate is open, and it has the records of these spellings and then, at this end, a closed gate.
-pub record StandsTo (region : ℕ) (spellings : List (List ℕ)) (end : ℕ) (bytes : List ℕ) : Type 0 where
-  pub format : ℕ
+-- The volume's header gate is open, its header has this format, and it has the records of these spellings and then, at
+-- this end, a closed gate.
+pub record StandsTo (region format : ℕ) (spellings : List (List ℕ)) (end : ℕ) (bytes : List ℕ) : Type 0 where
   pub gate : ℕ
   pub rest : List ℕ
   pub closed : gate ≢ 1
@@ -55,6 +56,14 @@ pub record StandsTo (region : ℕ) (spellings : List (List ℕ)) (end : ℕ) (by
 abbrev pub IsEmptyVolume : List ℕ → Type 0
 IsEmptyVolume bytes = (length bytes < 16) ⊎ (slice_index bytes 0 ≢ 1)
 
--- what a volume's bytes stand for
+-- the test of that
+abbrev pub is_empty_volume : List ℕ → Bool
+is_empty_volume bytes = nat_lt (length bytes) 16 || not (slice_index bytes 0 == 1)
+
+-- the format of a volume that has an open header
+abbrev pub format_of : List ℕ → ℕ
+format_of bytes = slice_index bytes 15
+
+-- what a volume's bytes stand for, in some format
 abbrev pub Stands : ℕ → List (List ℕ) → List ℕ → Type 0
-Stands region spellings bytes = (IsEmptyVolume bytes × (spellings ≡ [])) ⊎ ((end : ℕ) × StandsTo region spellings end bytes)
+Stands region spellings bytes = (IsEmptyVolume bytes × (spellings ≡ [])) ⊎ ((end : ℕ) × (format : ℕ) × StandsTo region format spellings end bytes)

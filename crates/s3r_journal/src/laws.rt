@@ -6,7 +6,7 @@ pub fn one_history()
     ensures { OneHistory }
 {}
 
-/// Where bytes stand for a history with an end, they do with one history and one end alone.
+/// Where bytes stand for a history with an end, they do so with one history, one end and one format alone.
 pub fn one_end()
     ensures { OneEnd }
 {}

@@ -4,8 +4,10 @@
 
 mod laws;
 mod scanning;
+mod window;
 mod writing;
 
 pub use laws::{front_begins, one_end, one_history, scanning_stands, standing_scans};
-pub use scanning::{ScanFault, Scanned, scan};
+pub use scanning::{ScanFault, Scanned, scan, scan_in};
+pub use window::Window;
 pub use writing::{AppendFault, append, create};

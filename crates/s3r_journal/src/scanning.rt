@@ -1,10 +1,12 @@
 // What a volume holds from a place on.
-ghost use Rattle.std.specs.Prelude.{◌≡◌, ◌≤◌, ◌<◌, IsTrue, length, drop, IfOk, IfErr, vec_len};
+ghost use Rattle.std.specs.Prelude.{◌≡◌, ◌≤◌, ◌<◌, ℕ, List, IsTrue, length, take, drop, IfOk, IfErr, vec_len};
 ghost use Rattle.std.specs.Int.{to_be_bytes, w32};
-ghost use Rattle.s3r_world.specs.Outside.{KeepsShape, VolumeCause, NoneFalls, Looks};
+ghost use Rattle.s3r_world.specs.Outside.{KeepsShape, NoneFalls, Looks};
 ghost use Rattle.s3r_journal.specs.Scan.{Scans, GoesOn, HasCause};
 ghost use Rattle.s3r_journal.specs.Pieces.{IsHeader, IsHead, IsBody, IsThere};
+ghost use Rattle.s3r_journal.specs.Windows.{Shows, Covers};
 
+use crate::window::Window;
 use s3r_world::{VolumeFault, World};
 use std::alloc::{AllocError, Global};
 
@@ -69,59 +71,45 @@ enum Head {
     Open(u32),
 }
 
-// The header, or that there is none.
-fn header_of<W: World>(world: &mut W, v: u32, region: u8) -> Result<Header, VolumeFault>
-    requires volume { v < (W.shape world.old).volumes }
-    requires region { region ≤ 7 }
-    ensures header { IsTrue W.tells → IfOk result (IsHeader region ((W.outside world.old).as_read.volume v)) }
-    ensures told { IsTrue W.tells → Looks (W.outside world.old) (W.outside world.new) }
-    ensures goes { W.goes world.old world.new }
-    ensures shape { KeepsShape (W.shape world.old) (W.shape world.new) }
-    ensures cause { VolumeCause v result (W.faults world.old) (W.faults world.new) }
+// The header in the first bytes of a volume, or that there is none. Fewer than 16 are all.
+fn header_in(front: &[u8], region: u8) -> Header
+    requires { region ≤ 7 }
+    ensures { (bytes : List ℕ) → Covers 16 front.now bytes → IsHeader region bytes result }
 {
-    let mut bytes = [0; 16];
-    let count = world.read(v, 0, &mut bytes)?;
-    if count < 16 || bytes[0] != 1 {
-        return Ok(Header::Missing);
+    if front.len() < 16 || front[0] != 1 {
+        return Header::Missing;
     }
     let mut label = *b"S3RVOL\0\0\0\0\0\0\0\0";
     label[6] = b'0' + region;
-    if bytes[1..15] == label[..] {
-        Ok(Header::Right)
+    if front[1..15] == label[..] {
+        Header::Right
     } else {
-        Ok(Header::Wrong)
+        Header::Wrong
     }
 }
 
 // The length behind a gate.
-fn length_in(head: [u8; 5]) -> u32
-    ensures { to_be_bytes w32 result ≡ drop 1 head }
+fn length_in(front: &[u8]) -> u32
+    requires { 5 ≤ length front.now }
+    ensures { to_be_bytes w32 result ≡ take 4 (drop 1 front.now) }
 {
-    let [_, first, second, third, fourth] = head;
-    u32::from_be_bytes([first, second, third, fourth])
+    u32::from_be_bytes([front[1], front[2], front[3], front[4]])
 }
 
-// The gate at a place, and the length behind an open one.
-fn head_at<W: World>(world: &mut W, v: u32, at: u64) -> Result<Head, VolumeFault>
-    requires { v < (W.shape world.old).volumes }
-    ensures head { IsTrue W.tells → IfOk result (IsHead (drop at ((W.outside world.old).as_read.volume v))) }
-    ensures told { IsTrue W.tells → Looks (W.outside world.old) (W.outside world.new) }
-    ensures goes { W.goes world.old world.new }
-    ensures shape { KeepsShape (W.shape world.old) (W.shape world.new) }
-    ensures cause { VolumeCause v result (W.faults world.old) (W.faults world.new) }
+// The gate that bytes begin with, and the length behind an open one. Fewer than 5 are all.
+fn head_in(front: &[u8]) -> Head
+    ensures { (bytes : List ℕ) → Covers 5 front.now bytes → IsHead bytes result }
 {
-    let mut head = [0; 5];
-    let count = world.read(v, at, &mut head)?;
-    if count == 0 {
-        return Ok(Head::Cut);
+    if front.is_empty() {
+        return Head::Cut;
     }
-    if head[0] != 1 {
-        return Ok(Head::Closed);
+    if front[0] != 1 {
+        return Head::Closed;
     }
-    if count < 5 {
-        return Ok(Head::Cut);
+    if front.len() < 5 {
+        return Head::Cut;
     }
-    Ok(Head::Open(length_in(head)))
+    Head::Open(length_in(front))
 }
 
 // The bytes of an open record of this length at a place.
@@ -131,47 +119,91 @@ fn body_at<W: World>(
     v: u32,
     at: u64,
     length: u32,
+    window: &mut Window,
 ) -> Result<Scanned, ScanFault>
-    requires { v < (W.shape world.old).volumes }
+    requires volume { v < (W.shape world.old).volumes }
+    requires shows { IsTrue W.tells → Shows v window.old (W.outside world.old) }
     ensures next { IfOk result (GoesOn at) }
     ensures body { IsTrue W.tells → IsBody at length (drop at ((W.outside world.old).as_read.volume v)) result }
+    ensures shows { IsTrue W.tells → Shows v window.new (W.outside world.new) }
     ensures told { IsTrue W.tells → Looks (W.outside world.old) (W.outside world.new) }
     ensures fault { IfErr result (λ e. HasCause v e (W.faults world.old) (W.faults world.new)) }
     ensures counts { NoneFalls (W.faults world.old) (W.faults world.new) }
     ensures goes { W.goes world.old world.new }
     ensures shape { KeepsShape (W.shape world.old) (W.shape world.new) }
 {
-    let left = world.size(v)?.saturating_sub(at);
-    let whole = 5 + u64::from(length);
-    if length > LONGEST || left < whole {
+    if length > LONGEST {
         return Err(ScanFault::Damaged(v, at));
     }
-    let mut bytes = vec![in alloc; 0; length as usize]?;
-    let count = world.read(v, at + 5, bytes.as_mut_slice())?;
-    if count < bytes.len() {
+    let whole = 5 + length as usize;
+    window.reach(world, alloc, v, at, whole as u64)?;
+    let front = window.bytes_from(at);
+    if front.len() < whole {
         return Err(ScanFault::Damaged(v, at));
     }
+    let bytes = Vec::from_slice(alloc, &front[5..whole])?;
     Ok(Scanned::Record {
         bytes,
-        next: at + whole,
+        next: at + whole as u64,
     })
 }
 
 // The record at a place, or the end.
-fn record_at<W: World>(world: &mut W, alloc: Global, v: u32, at: u64) -> Result<Scanned, ScanFault>
-    requires { v < (W.shape world.old).volumes }
+fn record_at<W: World>(
+    world: &mut W,
+    alloc: Global,
+    v: u32,
+    at: u64,
+    window: &mut Window,
+) -> Result<Scanned, ScanFault>
+    requires volume { v < (W.shape world.old).volumes }
+    requires shows { IsTrue W.tells → Shows v window.old (W.outside world.old) }
     ensures next { IfOk result (GoesOn at) }
     ensures found { IsTrue W.tells → IsThere at (drop at ((W.outside world.old).as_read.volume v)) result }
+    ensures shows { IsTrue W.tells → Shows v window.new (W.outside world.new) }
     ensures told { IsTrue W.tells → Looks (W.outside world.old) (W.outside world.new) }
     ensures fault { IfErr result (λ e. HasCause v e (W.faults world.old) (W.faults world.new)) }
     ensures counts { NoneFalls (W.faults world.old) (W.faults world.new) }
     ensures goes { W.goes world.old world.new }
     ensures shape { KeepsShape (W.shape world.old) (W.shape world.new) }
 {
-    match head_at(world, v, at)? {
+    window.reach(world, alloc, v, at, 5)?;
+    match head_in(window.bytes_from(at)) {
         Head::Closed => Ok(Scanned::End(at)),
         Head::Cut => Err(ScanFault::Damaged(v, at)),
-        Head::Open(length) => body_at(world, alloc, v, at, length),
+        Head::Open(length) => body_at(world, alloc, v, at, length, window),
+    }
+}
+
+/// What a volume holds from a place on: there is no header, the history ends, or the record there. Only where the
+/// records begin, at 16, it reads the header. It reads a piece of the volume where the window hasn't the bytes.
+pub fn scan_in<W: World>(
+    world: &mut W,
+    alloc: Global,
+    v: u32,
+    region: u8,
+    from: u64,
+    window: &mut Window,
+) -> Result<Scanned, ScanFault>
+    requires volume { v < (W.shape world.old).volumes }
+    requires region { region ≤ 7 }
+    requires shows { IsTrue W.tells → Shows v window.old (W.outside world.old) }
+    ensures next { IfOk result (GoesOn from) }
+    ensures told { IsTrue W.tells → Scans v region from result (W.outside world.old) (W.outside world.new) }
+    ensures shows { IsTrue W.tells → Shows v window.new (W.outside world.new) }
+    ensures fault { IfErr result (λ e. HasCause v e (W.faults world.old) (W.faults world.new)) }
+    ensures counts { NoneFalls (W.faults world.old) (W.faults world.new) }
+    ensures goes { W.goes world.old world.new }
+    ensures shape { KeepsShape (W.shape world.old) (W.shape world.new) }
+{
+    if from != START {
+        return record_at(world, alloc, v, from, window);
+    }
+    window.reach(world, alloc, v, 0, START)?;
+    match header_in(window.bytes_from(0), region) {
+        Header::Missing => Ok(Scanned::Empty),
+        Header::Wrong => Err(ScanFault::Damaged(v, 1)),
+        Header::Right => record_at(world, alloc, v, from, window),
     }
 }
 
@@ -193,13 +225,6 @@ pub fn scan<W: World>(
     ensures goes { W.goes world.old world.new }
     ensures shape { KeepsShape (W.shape world.old) (W.shape world.new) }
 {
-    world.sync(v)?;
-    if from != START {
-        return record_at(world, alloc, v, from);
-    }
-    match header_of(world, v, region)? {
-        Header::Missing => Ok(Scanned::Empty),
-        Header::Wrong => Err(ScanFault::Damaged(v, 1)),
-        Header::Right => record_at(world, alloc, v, from),
-    }
+    let mut window = Window::open(alloc, world, v)?;
+    scan_in(world, alloc, v, region, from, &mut window)
 }

@@ -98,7 +98,8 @@ pub fn append<W: World>(world: &mut W, v: u32, end: u64, frame: &[u8]) -> Result
     ensures end { IfOk result (λ e. e ≡ end + length frame.now) }
     ensures full { IsErrOf result (AppendFault.VolumeFull v) ↔ ((W.shape world.old).room v < end + 1 + length frame.now) }
     ensures full_unchanged { IsErrOf result (AppendFault.VolumeFull v) → world.new ≡ world.old }
-    ensures fault { IfErr result (λ e. (e ≡ AppendFault.VolumeFull v) ⊎ ((e ≡ AppendFault.Volume v) × Rises 1 ((W.faults world.old).volume v) ((W.faults world.new).volume v))) }
+    ensures fault { IfErr result (λ e. (e ≡ AppendFault.VolumeFull v) ⊎ ((e ≡ AppendFault.Volume v)
+        × Rises 1 ((W.faults world.old).volume v) ((W.faults world.new).volume v))) }
     ensures counts { NoneFalls (W.faults world.old) (W.faults world.new) }
     ensures goes { W.goes world.old world.new }
     ensures shape { KeepsShape (W.shape world.old) (W.shape world.new) }

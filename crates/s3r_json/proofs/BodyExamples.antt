@@ -70,7 +70,8 @@ printed = refl
 abbrev tag : List ℕ → List ℕ → Tag
 tag key value = record { key = key; value = value }
 
-in_order : tags_body (codes "{\"TagSet\":[{\"Key\":\"b\",\"Value\":\"\"},{\"Value\":\"1\",\"Key\":\"a\"}]}") ≡ Ok (tag (codes "a") (codes "1") ∷ tag (codes "b") [] ∷ [])
+in_order : tags_body (codes "{\"TagSet\":[{\"Key\":\"b\",\"Value\":\"\"},{\"Value\":\"1\",\"Key\":\"a\"}]}") ≡ Ok
+    (tag (codes "a") (codes "1") ∷ tag (codes "b") [] ∷ [])
 unfolding body_value only_in tag_in is_utf8 chars lib.Utf8.encode serde_json_on_literals
 in_order = refl
 
@@ -79,7 +80,8 @@ unfolding body_value only_in tag_in is_utf8 chars lib.Utf8.encode serde_json_on_
 no_tags = refl
 
 -- é by its escape and by its two bytes
-two_spellings : tags_body (codes "{\"TagSet\":[{\"Key\":\"\\u00e9\\n\",\"Value\":\"" ++ 195 ∷ 169 ∷ codes "\"}]}") ≡ Ok (tag (195 ∷ 169 ∷ 10 ∷ []) (195 ∷ 169 ∷ []) ∷ [])
+two_spellings : tags_body (codes "{\"TagSet\":[{\"Key\":\"\\u00e9\\n\",\"Value\":\"" ++ 195 ∷ 169 ∷ codes "\"}]}") ≡ Ok
+    (tag (195 ∷ 169 ∷ 10 ∷ []) (195 ∷ 169 ∷ []) ∷ [])
 unfolding body_value only_in tag_in is_utf8 chars lib.Utf8.encode serde_json_on_literals
 two_spellings = refl
 
@@ -115,6 +117,7 @@ form_first : tags_body (with_ten (codes "{\"Key\":\"b\",\"Value\":1}")) ≡ Err 
 unfolding body_value only_in tag_in is_utf8 chars lib.Utf8.encode serde_json_on_literals
 form_first = refl
 
-tags_printed : compact_text (tags_data (tag (codes "a\"") [] ∷ tag (codes "b") (codes "1") ∷ [])) ≡ codes "{\"TagSet\":[{\"Key\":\"a\\\"\",\"Value\":\"\"},{\"Key\":\"b\",\"Value\":\"1\"}]}"
+tags_printed : compact_text (tags_data (tag (codes "a\"") [] ∷ tag (codes "b") (codes "1") ∷ []))
+    ≡ codes "{\"TagSet\":[{\"Key\":\"a\\\"\",\"Value\":\"\"},{\"Key\":\"b\",\"Value\":\"1\"}]}"
 unfolding serde_json_on_literals
 tags_printed = refl

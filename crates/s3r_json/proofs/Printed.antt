@@ -55,6 +55,7 @@ set_again : (tags : List Tag) → is_tag_set tags ≡ true → set_of tags ≡ O
 set_again tags h = ap (λ (t : Bool). if t then Ok (in_key_order tags) else Err InvalidTag) (set-is_tag_list tags h) ∙ ap Ok (set-in_key_order tags h)
 
 -- a set that was printed is read as this set
-pub set_back : (tags : List Tag) (text : String Global) → is_tag_set tags ≡ true → read (string_bytes text) ≡ Some (tags_data tags) → tags_body (string_bytes text) ≡ Ok tags
+pub set_back : (tags : List Tag) (text : String Global) → is_tag_set tags ≡ true → read (string_bytes text) ≡ Some (tags_data tags)
+    → tags_body (string_bytes text) ≡ Ok tags
 set_back tags text h was =
     ap (of_value (λ d. set_of_read (tags_in d))) (printed_value text (tags_data tags) was) ∙ ap set_of_read (tags_back tags) ∙ set_again tags h

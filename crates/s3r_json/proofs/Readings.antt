@@ -31,6 +31,7 @@ unfolding only_in
 status_word word = refl
 
 -- a status that was printed is read
-pub status_back : (word : List ℕ) (text : String Global) → read (string_bytes text) ≡ Some (status_data word) → text_body (codes "Status") (string_bytes text) ≡ Ok word
+pub status_back : (word : List ℕ) (text : String Global) → read (string_bytes text) ≡ Some (status_data word)
+    → text_body (codes "Status") (string_bytes text) ≡ Ok word
 status_back word text h =
     ap (of_value (λ d. or_malformed (only_text_in (codes "Status") d))) (printed_value text (status_data word) h) ∙ ap or_malformed (status_word word)

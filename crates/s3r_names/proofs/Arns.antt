@@ -24,7 +24,8 @@ slash_behind (byte ∷ name) rest h =
 
 name-bytes : (name : List ℕ) → is_bucket_name name ≡ true → list_all is_name_byte name ≡ true
 name-bytes name h =
-    let b = and_parts (has_name_length name && list_all is_name_byte name && has_name_ends name && not (has_adjacent_dots name) && not (is_address name)) (not (is_reserved name)) h in
+    let b = and_parts (has_name_length name && list_all is_name_byte name && has_name_ends name && not (has_adjacent_dots name) && not (is_address name))
+    (not (is_reserved name)) h in
     let c = and_parts (has_name_length name && list_all is_name_byte name && has_name_ends name && not (has_adjacent_dots name)) (not (is_address name)) b.0 in
     let d = and_parts (has_name_length name && list_all is_name_byte name && has_name_ends name) (not (has_adjacent_dots name)) c.0 in
     let e = and_parts (has_name_length name && list_all is_name_byte name) (has_name_ends name) d.0 in
@@ -44,7 +45,8 @@ first_slash name key h =
 pub bucket-reads : (name text : List ℕ) → is_bucket_name name ≡ true → text ≡ arn_text (Bucket name) → arn_of text ≡ Some (Bucket name)
 bucket-reads name text h e = ap arn_of e ∙ ap (λ place. arn_at place name) (no_slash name (name-bytes name h)) ∙ rw h refl
 
-pub object-reads : (name key text : List ℕ) → (is_bucket_name name && is_key key) ≡ true → text ≡ arn_text (Object name key) → arn_of text ≡ Some (Object name key)
+pub object-reads : (name key text : List ℕ) → (is_bucket_name name && is_key key) ≡ true → text ≡ arn_text (Object name key)
+    → arn_of text ≡ Some (Object name key)
 object-reads name key text h e =
     let named = (and_parts (is_bucket_name name) (is_key key) h).0 in
     let front : take (length name) (name ++ 47 ∷ key) ≡ name = take-append_seam name (47 ∷ key) in

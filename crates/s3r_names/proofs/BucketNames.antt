@@ -21,8 +21,10 @@ pub record IsShortAscii (bytes : List ℕ) : Type 0 where
 
 pub name_is : (bytes : List ℕ) → is_bucket_name bytes ≡ true → IsShortAscii bytes
 name_is bytes h =
-    let a = and_parts (has_name_length bytes && list_all is_name_byte bytes && has_name_ends bytes && not (has_adjacent_dots bytes) && not (is_address bytes)) (not (is_reserved bytes)) h in
-    let b = and_parts (has_name_length bytes && list_all is_name_byte bytes && has_name_ends bytes && not (has_adjacent_dots bytes)) (not (is_address bytes)) a.0 in
+    let a = and_parts (has_name_length bytes && list_all is_name_byte bytes && has_name_ends bytes && not (has_adjacent_dots bytes) && not (is_address bytes))
+    (not (is_reserved bytes)) h in
+    let b = and_parts (has_name_length bytes && list_all is_name_byte bytes && has_name_ends bytes && not (has_adjacent_dots bytes))
+    (not (is_address bytes)) a.0 in
     let c = and_parts (has_name_length bytes && list_all is_name_byte bytes && has_name_ends bytes) (not (has_adjacent_dots bytes)) b.0 in
     let d = and_parts (has_name_length bytes && list_all is_name_byte bytes) (has_name_ends bytes) c.0 in
     let e = and_parts (has_name_length bytes) (list_all is_name_byte bytes) d.0 in

@@ -63,7 +63,8 @@ fits_more i number lt below =
     omega arith
 
 -- bytes are their first two and the others
-pub two_and_others : (bytes others : List ℕ) (first second : ℕ) → 2 ≤ length bytes → get_or bytes 0 0 ≡ first → get_or bytes 1 0 ≡ second → drop 2 bytes ≡ others → bytes ≡ first ∷ second ∷ others
+pub two_and_others : (bytes others : List ℕ) (first second : ℕ) → 2 ≤ length bytes → get_or bytes 0 0 ≡ first → get_or bytes 1 0 ≡ second
+    → drop 2 bytes ≡ others → bytes ≡ first ∷ second ∷ others
 two_and_others [] others first second h a b c = absurd (omega arith)
 two_and_others (x ∷ []) others first second h a b c = absurd (omega arith)
 two_and_others (x ∷ y ∷ bytes) others first second h a b c = let rest : bytes ≡ others = c in cc
@@ -85,7 +86,8 @@ pub byte_spelled : (bytes : List ℕ) (i number value : ℕ) → i < length byte
 byte_spelled bytes i number value lt e spelled =
     let one : i + 1 ≡ suc i = omega arith in
     let digit = digit_of_value (get_or bytes i 0) value (sym e) in
-    rw one (take-suc bytes i 0 lt ∙ ap (λ front. front ++ get_or bytes i 0 ∷ []) spelled ∙ ap (λ byte. hex_digits i number ++ byte ∷ []) (sym digit.1) ∙ sym (hex_digits-more i number value digit.0))
+    rw one (take-suc bytes i 0 lt ∙ ap (λ front. front ++ get_or bytes i 0 ∷ []) spelled ∙ ap (λ byte. hex_digits i number ++ byte ∷ []) (sym digit.1)
+    ∙ sym (hex_digits-more i number value digit.0))
 
 pub byte_below : (bytes : List ℕ) (i number value : ℕ) → Some value ≡ hex_value (get_or bytes i 0) → number < 16 ^ i → number * 16 + value < 16 ^ (i + 1)
 byte_below bytes i number value e below =
@@ -112,7 +114,8 @@ digit_written bytes done left byte lt len e =
     rw (more, place, behind, drop-set bytes (17 - done) byte inside, e)
     (sym (append_assoc (hex_digits (16 - (done + 1)) (left / 16)) (hex_digit (left % 16) ∷ []) (drop (17 - done + 1) bytes)))
 
-pub digits_written : (bytes : List ℕ) (done left : ℕ) (digits : List ℕ) → 16 ≤ done → done ≤ 16 → hex_digits (16 - done) left ++ drop (18 - done) bytes ≡ digits → drop 2 bytes ≡ digits
+pub digits_written : (bytes : List ℕ) (done left : ℕ) (digits : List ℕ) → 16 ≤ done → done ≤ 16
+    → hex_digits (16 - done) left ++ drop (18 - done) bytes ≡ digits → drop 2 bytes ≡ digits
 unfolding hex_digits
 digits_written bytes done left digits low high e =
     let whole : done ≡ 16 = omega arith in

@@ -51,7 +51,8 @@ unfolding is_utf8 chars lib.Utf8.encode
 too_long_key = refl
 
 -- the order is that of bytes
-in_order : in_key_order (tag (codes "b") ∷ tag (codes "ab") ∷ tag (codes "Z") ∷ tag (codes "a") ∷ []) ≡ (tag (codes "Z") ∷ tag (codes "a") ∷ tag (codes "ab") ∷ tag (codes "b") ∷ [])
+in_order : in_key_order (tag (codes "b") ∷ tag (codes "ab") ∷ tag (codes "Z") ∷ tag (codes "a") ∷ []) ≡
+    (tag (codes "Z") ∷ tag (codes "a") ∷ tag (codes "ab") ∷ tag (codes "b") ∷ [])
 in_order = refl
 
 any_order : is_tag_list (tag (codes "b") ∷ tag (codes "a") ∷ []) ≡ true

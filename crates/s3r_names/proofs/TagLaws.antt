@@ -67,18 +67,22 @@ swapped_or true true c = refl
 swapped_or true false c = refl
 
 module _ (test : Tag → Bool) where
-  all_at : (tag first : Tag) (tags : List Tag) (b : Bool) → is_key_below first.key tag.key ≡ b → list_all test (with_tag tag tags) ≡ (test tag && list_all test tags)
+  all_at : (tag first : Tag) (tags : List Tag) (b : Bool) → is_key_below first.key tag.key ≡ b
+      → list_all test (with_tag tag tags) ≡ (test tag && list_all test tags)
       → list_all test (with_tag tag (first ∷ tags)) ≡ (test tag && list_all test (first ∷ tags))
-  all_at tag first tags true e h = ap (list_all test) (with_tag-behind tag first tags e) ∙ ap (λ b. test first && b) h ∙ swapped_and (test first) (test tag) (list_all test tags)
+  all_at tag first tags true e h = ap (list_all test) (with_tag-behind tag first tags e) ∙ ap (λ b. test first && b) h
+      ∙ swapped_and (test first) (test tag) (list_all test tags)
   all_at tag first tags false e h = ap (list_all test) (with_tag-before tag first tags e)
 
   pub all-with_tag : (tag : Tag) (tags : List Tag) → list_all test (with_tag tag tags) ≡ (test tag && list_all test tags)
   all-with_tag tag [] = refl
   all-with_tag tag (first ∷ tags) = all_at tag first tags (is_key_below first.key tag.key) refl (all-with_tag tag tags)
 
-  any_at : (tag first : Tag) (tags : List Tag) (b : Bool) → is_key_below first.key tag.key ≡ b → list_any test (with_tag tag tags) ≡ (test tag || list_any test tags)
+  any_at : (tag first : Tag) (tags : List Tag) (b : Bool) → is_key_below first.key tag.key ≡ b
+      → list_any test (with_tag tag tags) ≡ (test tag || list_any test tags)
       → list_any test (with_tag tag (first ∷ tags)) ≡ (test tag || list_any test (first ∷ tags))
-  any_at tag first tags true e h = ap (list_any test) (with_tag-behind tag first tags e) ∙ ap (λ b. test first || b) h ∙ swapped_or (test first) (test tag) (list_any test tags)
+  any_at tag first tags true e h = ap (list_any test) (with_tag-behind tag first tags e) ∙ ap (λ b. test first || b) h
+      ∙ swapped_or (test first) (test tag) (list_any test tags)
   any_at tag first tags false e h = ap (list_any test) (with_tag-before tag first tags e)
 
   pub any-with_tag : (tag : Tag) (tags : List Tag) → list_any test (with_tag tag tags) ≡ (test tag || list_any test tags)
@@ -119,7 +123,8 @@ none_same key (tag ∷ tags) h =
     rw ((ordered key tag.key Less (is_less (cmp key tag.key) parts.0)).same_back, none_same key tags parts.1) refl
 
 two_rise : (tag next : Tag) (tags : List Tag) (b : Bool) → is_key_below tag.key next.key ≡ b
-    → ((is_key_below tag.key next.key && are_above tag.key tags) && (are_above next.key tags && rises tags)) ≡ (is_key_below tag.key next.key && (are_above next.key tags && rises tags))
+    → ((is_key_below tag.key next.key && are_above tag.key tags) && (are_above next.key tags && rises tags)) ≡
+    (is_key_below tag.key next.key && (are_above next.key tags && rises tags))
 two_rise tag next tags false e = rw e refl
 two_rise tag next tags true e = rw e (absorbed (are_above tag.key tags) (are_above next.key tags && rises tags)
     (λ h. are_above-trans tag.key next.key tags e (and_parts (are_above next.key tags) (rises tags) h).0))
@@ -127,7 +132,8 @@ two_rise tag next tags true e = rw e (absorbed (are_above tag.key tags) (are_abo
 rises-is : (tags : List Tag) → rises tags ≡ has_rising_keys tags
 rises-is [] = refl
 rises-is (tag ∷ []) = refl
-rises-is (tag ∷ next ∷ tags) = two_rise tag next tags (is_key_below tag.key next.key) refl ∙ ap (λ b. is_key_below tag.key next.key && b) (rises-is (next ∷ tags))
+rises-is (tag ∷ next ∷ tags) = two_rise tag next tags (is_key_below tag.key next.key) refl
+    ∙ ap (λ b. is_key_below tag.key next.key && b) (rises-is (next ∷ tags))
 
 same_with : (a b r : Bool) → (r ≡ true → a ≡ b) → (a && r) ≡ (b && r)
 same_with a b true h = ap (λ c. c && true) (h refl)
@@ -136,12 +142,14 @@ same_with true false false h = refl
 same_with false true false h = refl
 same_with false false false h = refl
 
-rises_at : (tag first : Tag) (tags : List Tag) (o : Ordering) → cmp first.key tag.key ≡ o → rises (with_tag tag tags) ≡ (not (has_key tag.key tags) && rises tags)
+rises_at : (tag first : Tag) (tags : List Tag) (o : Ordering) → cmp first.key tag.key ≡ o
+    → rises (with_tag tag tags) ≡ (not (has_key tag.key tags) && rises tags)
     → rises (with_tag tag (first ∷ tags)) ≡ (not (has_key tag.key (first ∷ tags)) && rises (first ∷ tags))
 rises_at tag first tags Less e h =
     let is = ordered first.key tag.key Less e in
     ap rises (with_tag-behind tag first tags is.down)
-    ∙ ap (λ b. b && rises (with_tag tag tags)) (all-with_tag (λ (next : Tag). is_key_below first.key next.key) tag tags ∙ ap (λ b. b && are_above first.key tags) is.down)
+    ∙ ap (λ b. b && rises (with_tag tag tags)) (all-with_tag (λ (next : Tag). is_key_below first.key next.key) tag tags
+    ∙ ap (λ b. b && are_above first.key tags) is.down)
     ∙ ap (λ b. are_above first.key tags && b) h
     ∙ swapped_and (are_above first.key tags) (not (has_key tag.key tags)) (rises tags)
     ∙ sym (ap (λ b. not (b || has_key tag.key tags) && rises (first ∷ tags)) is.same)

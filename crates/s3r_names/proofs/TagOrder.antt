@@ -17,7 +17,8 @@ kept (x ∷ xs) rest (suc i) h = ap (λ ys. x ∷ ys) (kept xs rest i (omega ari
 
 -- the tags from the i-th on are in order once the i-th is moved
 pub moved_more : (xs now moved : List Tag) (start i k : ℕ) → start ≡ suc i → start ≤ length xs → length now ≤ i + k
-    → now ≡ take start xs ++ in_key_order (drop start xs) → moved ≡ first_moved (take k (drop i now)) → put_mid i k now moved ≡ take i xs ++ in_key_order (drop i xs)
+    → now ≡ take start xs ++ in_key_order (drop start xs) → moved ≡ first_moved (take k (drop i now))
+    → put_mid i k now moved ≡ take i xs ++ in_key_order (drop i xs)
 moved_more xs now moved start i k e within fits is moves =
     let short : length (drop i now) ≤ k = omega (arith, length-drop i now) in
     let is_next : now ≡ take (suc i) xs ++ in_key_order (drop (suc i) xs) = is ∙ ap (λ (n : ℕ). take n xs ++ in_key_order (drop n xs)) e in

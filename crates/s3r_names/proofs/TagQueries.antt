@@ -31,11 +31,14 @@ below_top c h = let bound = scalar_cases c h in grind arith
 encode-bytes : (c : ℕ) → scalar c ≡ true → All IsByte (encode c)
 unfolding encode
 encode-bytes c h =
-    cond_both (ltb c 128) (c ∷ []) (cond (ltb c 2048) ((192 + c / 64) ∷ next c ∷ []) (cond (ltb c 65536) ((224 + c / 4096) ∷ next (c / 64) ∷ next c ∷ []) ((240 + c / 262144) ∷ next (c / 4096) ∷ next (c / 64) ∷ next c ∷ []))) (All IsByte)
+    cond_both (ltb c 128) (c ∷ []) (cond (ltb c 2048) ((192 + c / 64) ∷ next c ∷ [])
+    (cond (ltb c 65536) ((224 + c / 4096) ∷ next (c / 64) ∷ next c ∷ []) ((240 + c / 262144) ∷ next (c / 4096) ∷ next (c / 64) ∷ next c ∷ []))) (All IsByte)
     (λ low. one c (omega (arith, ltb-true c 128 low)))
-    (λ above. cond_both (ltb c 2048) ((192 + c / 64) ∷ next c ∷ []) (cond (ltb c 65536) ((224 + c / 4096) ∷ next (c / 64) ∷ next c ∷ []) ((240 + c / 262144) ∷ next (c / 4096) ∷ next (c / 64) ∷ next c ∷ [])) (All IsByte)
+    (λ above. cond_both (ltb c 2048) ((192 + c / 64) ∷ next c ∷ []) (cond (ltb c 65536) ((224 + c / 4096) ∷ next (c / 64) ∷ next c ∷ [])
+    ((240 + c / 262144) ∷ next (c / 4096) ∷ next (c / 64) ∷ next c ∷ [])) (All IsByte)
     (λ low. two (192 + c / 64) (next c) (omega (arith, ltb-true c 2048 low)) (omega arith))
-    (λ more. cond_both (ltb c 65536) ((224 + c / 4096) ∷ next (c / 64) ∷ next c ∷ []) ((240 + c / 262144) ∷ next (c / 4096) ∷ next (c / 64) ∷ next c ∷ []) (All IsByte)
+    (λ more. cond_both (ltb c 65536) ((224 + c / 4096) ∷ next (c / 64) ∷ next c ∷ []) ((240 + c / 262144) ∷ next (c / 4096) ∷ next (c / 64) ∷ next c ∷ [])
+    (All IsByte)
     (λ low. three (224 + c / 4096) (next (c / 64)) (next c) (omega (arith, ltb-true c 65536 low)) (omega arith) (omega arith))
     (λ most. four (240 + c / 262144) (next (c / 4096)) (next (c / 64)) (next c) (omega (arith, below_top c h)) (omega arith) (omega arith) (omega arith))))
 
@@ -72,7 +75,9 @@ query_back tags h = ap (map tag_of) (round_trip (map pair_of tags) (tags-bytes t
 pub set_back : (tags text : List Tag) → text ≡ tags → is_tag_set tags ≡ true → (is_tag_list text ≡ true) × (in_key_order text ≡ tags)
 set_back tags text e h = (ap is_tag_list e ∙ set-is_tag_list tags h, ap in_key_order e ∙ set-in_key_order tags h)
 
-pub query-reads : (tags : List Tag) (text : List ℕ) → is_tag_set tags ≡ true → text ≡ query_text tags → (is_tag_list (query_tags text) ≡ true) × (in_key_order (query_tags text) ≡ tags)
+pub query-reads : (tags : List Tag) (text : List ℕ) → is_tag_set tags ≡ true → text ≡ query_text tags → (is_tag_list (query_tags text) ≡ true)
+    × (in_key_order (query_tags text) ≡ tags)
 query-reads tags text h e =
-    let each = (and_parts (nat_le (length tags) 10) (list_all is_tag tags) (and_parts (nat_le (length tags) 10 && list_all is_tag tags) (has_rising_keys tags) h).0).1 in
+    let each = (and_parts (nat_le (length tags) 10) (list_all is_tag tags)
+    (and_parts (nat_le (length tags) 10 && list_all is_tag tags) (has_rising_keys tags) h).0).1 in
     set_back tags (query_tags text) (ap query_tags e ∙ query_back tags each) h

@@ -160,7 +160,8 @@ impl TagSet {
     /// The web form of the tags, in their order.
     pub fn print_query(&self, alloc: Global) -> Result<String, AllocError>
         ensures text { IfOk result (λ text. string_bytes text ≡ query_text self.now) }
-        ensures reads { IfOk result (λ text. IsTrue (is_tag_list (query_tags (string_bytes text))) × (in_key_order (query_tags (string_bytes text)) ≡ self.now)) }
+        ensures reads { IfOk result (λ text. IsTrue (is_tag_list (query_tags (string_bytes text)))
+            × (in_key_order (query_tags (string_bytes text)) ≡ self.now)) }
     {
         query_text(alloc, self.as_slice())
     }

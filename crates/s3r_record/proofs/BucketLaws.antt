@@ -11,7 +11,8 @@ pub create_bucket_takes : TakesBehind spelling Ruled (1 ∷ []) create_bucket_at
 unfolding create_bucket_at
 create_bucket_takes = take_then _ bucket_name_law (λ name named. take_then _ flag_law (λ locked _. take_end (command.CreateBucket name locked) named))
 
-pub create_bucket_again : (name : List ℕ) (locked : Bool) → IsCommand (command.CreateBucket name locked) → ReadBehind spelling (1 ∷ []) (command.CreateBucket name locked) create_bucket_at
+pub create_bucket_again : (name : List ℕ) (locked : Bool) → IsCommand (command.CreateBucket name locked)
+    → ReadBehind spelling (1 ∷ []) (command.CreateBucket name locked) create_bucket_at
 unfolding create_bucket_at
 create_bucket_again name locked fits = again_then _ bucket_name_law name fits (again_then _ flag_law locked tt (again_end (command.CreateBucket name locked)))
 
@@ -27,6 +28,8 @@ pub set_versioning_takes : TakesBehind spelling Ruled (3 ∷ []) set_versioning_
 unfolding set_versioning_at
 set_versioning_takes = take_then _ bucket_name_law (λ name named. take_then _ flag_law (λ enabled _. take_end (command.SetVersioning name enabled) named))
 
-pub set_versioning_again : (name : List ℕ) (enabled : Bool) → IsCommand (command.SetVersioning name enabled) → ReadBehind spelling (3 ∷ []) (command.SetVersioning name enabled) set_versioning_at
+pub set_versioning_again : (name : List ℕ) (enabled : Bool) → IsCommand (command.SetVersioning name enabled)
+    → ReadBehind spelling (3 ∷ []) (command.SetVersioning name enabled) set_versioning_at
 unfolding set_versioning_at
-set_versioning_again name enabled fits = again_then _ bucket_name_law name fits (again_then _ flag_law enabled tt (again_end (command.SetVersioning name enabled)))
+set_versioning_again name enabled fits = again_then _ bucket_name_law name fits
+    (again_then _ flag_law enabled tt (again_end (command.SetVersioning name enabled)))

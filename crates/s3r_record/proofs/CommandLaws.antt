@@ -7,7 +7,7 @@ use Rattle.s3r_record.specs.declared.fault.RecordFault.{RecordFault}
 use Rattle.s3r_record.specs.declared.command.Command.{Command}
 use Rattle.s3r_record.specs.declared.command.Command.TheVariants as command
 use Rattle.s3r_record.specs.Spelling.{spelling, IsCommand}
-use Rattle.s3r_record.specs.Reading.{◌>>=◌, Gives, place}
+use Rattle.s3r_record.specs.Reading.{◌>>=◌, Gives, Unread, place}
 use Rattle.s3r_record.specs.Commands.{fields_at, command_at}
 use Rattle.s3r_record.proofs.ReaderLaws.{IsBytes, IsBytes-rest, bind_ok, guard_passed, ok_is, left}
 use Rattle.s3r_record.proofs.SeveralFields.{TakesBehind, ReadBehind, take_chosen, take_none}
@@ -36,44 +36,73 @@ pub command_takes : (bytes : List ℕ) (c : Command) → IsBytes bytes → comma
 unfolding command_at
 command_takes [] c fits e = absurd cc
 command_takes (kind ∷ fields) c fits e =
-    let read = bind_ok (fields_at kind (left (length (kind ∷ fields)) fields)) (λ read. cond (eqb (length read.1.bytes) 0) (Ok read.0) (Err (place read.1))) c e in
+    let read = bind_ok (fields_at kind (left (length (kind ∷ fields)) fields))
+    (λ read. cond (eqb (length read.1.bytes) 0) (Ok read.0) (Err (place read.1))) c e in
     let g = guard_passed (eqb (length read.0.1.bytes) 0) (place read.0.1) read.0.0 c read.2 in
     let taken = (fields_take kind).takes (left (length (kind ∷ fields)) fields) read.0 (IsBytes-rest kind fields fits) read.1 in
     let nothing : read.0.1.bytes ≡ [] = nil_from_length read.0.1.bytes (eqb-true _ _ g.0) in
-    let all : (kind ∷ fields) ≡ spelling read.0.0 = taken.0.parts ∙ ap (λ (rest : List ℕ). spelling read.0.0 ++ rest) nothing ∙ append-nil (spelling read.0.0) in
+    let all : (kind ∷ fields) ≡ spelling read.0.0 = taken.0.parts ∙ ap (λ (rest : List ℕ). spelling read.0.0 ++ rest) nothing
+    ∙ append-nil (spelling read.0.0) in
     subst (λ (c : Command). Ruled c × ((kind ∷ fields) ≡ spelling c)) g.1 (taken.1, all)
 
+-- A command at the front of bytes that go on behind it, as its byte and its fields.
+abbrev front_at : ℕ → List ℕ → Result (Command × Unread) ℕ
+front_at whole [] = Err 0
+front_at whole (kind ∷ fields) = fields_at kind (left whole fields)
+
+-- its spelling is read, and so is the front of what begins with it
+record IsRead (c : Command) : Type 0 where
+  pub all : command_at (spelling c) ≡ Ok c
+  pub front : (whole : ℕ) (rest : List ℕ) → front_at whole (spelling c ++ rest) ≡ Ok (c, left whole rest)
+
 -- fields that are read behind their command's byte are all of its spelling
-all_read : (kind : ℕ) (c : Command) → ReadBehind spelling (kind ∷ []) c (fields_at kind) → command_at (spelling c) ≡ Ok c
+is_read : (kind : ℕ) (c : Command) → ReadBehind spelling (kind ∷ []) c (fields_at kind) → IsRead c
 unfolding command_at
-all_read kind c behind =
+is_read kind c behind =
     let whole = length (kind ∷ behind.after) in
-    let read : fields_at kind (left whole behind.after) ≡ Ok (c, left whole []) =
+    let fields : fields_at kind (left whole behind.after) ≡ Ok (c, left whole []) =
     ap (λ (bytes : List ℕ). fields_at kind (left whole bytes)) (sym (append-nil behind.after)) ∙ behind.again whole [] in
-    ap command_at (sym behind.parts) ∙ ap (λ r. r >>= λ read. cond (eqb (length read.1.bytes) 0) (Ok read.0) (Err (place read.1))) read
+    record {
+      all = ap command_at (sym behind.parts) ∙ ap (λ r. r >>= λ read. cond (eqb (length read.1.bytes) 0) (Ok read.0) (Err (place read.1))) fields;
+      front = λ whole rest. ap (λ (bytes : List ℕ). front_at whole (bytes ++ rest)) (sym behind.parts) ∙ behind.again whole rest;
+    }
+
+reads_again : (c : Command) → IsCommand c → IsRead c
+unfolding fields_at
+reads_again (command.CreateBucket name locked) fits = is_read 1 (command.CreateBucket name locked) (create_bucket_again name locked fits)
+reads_again (command.DeleteBucket name) fits = is_read 2 (command.DeleteBucket name) (delete_bucket_again name fits)
+reads_again (command.SetVersioning name enabled) fits = is_read 3 (command.SetVersioning name enabled) (set_versioning_again name enabled fits)
+reads_again (command.SetReplication name config regions) fits =
+    is_read 4 (command.SetReplication name config regions) (set_replication_again name config regions fits)
+reads_again (command.DropReplication name) fits = is_read 5 (command.DropReplication name) (drop_replication_again name fits)
+reads_again (command.Put bucket key tags hold class bytes) fits =
+    is_read 6 (command.Put bucket key tags hold class bytes) (put_again bucket key tags hold class bytes fits)
+reads_again (command.Marker bucket key) fits = is_read 7 (command.Marker bucket key) (marker_again bucket key fits)
+reads_again (command.Remove bucket key id) fits = is_read 8 (command.Remove bucket key id) (remove_again bucket key id fits)
+reads_again (command.SetTags bucket key id tags) fits = is_read 9 (command.SetTags bucket key id tags) (set_tags_again bucket key id tags fits)
+reads_again (command.SetHold bucket key id hold) fits = is_read 10 (command.SetHold bucket key id hold) (set_hold_again bucket key id hold fits)
 
 -- what is spelled so is read
 pub command_again : (c : Command) → IsCommand c → command_at (spelling c) ≡ Ok c
-unfolding fields_at
-command_again (command.CreateBucket name locked) fits = all_read 1 (command.CreateBucket name locked) (create_bucket_again name locked fits)
-command_again (command.DeleteBucket name) fits = all_read 2 (command.DeleteBucket name) (delete_bucket_again name fits)
-command_again (command.SetVersioning name enabled) fits = all_read 3 (command.SetVersioning name enabled) (set_versioning_again name enabled fits)
-command_again (command.SetReplication name config regions) fits = all_read 4 (command.SetReplication name config regions) (set_replication_again name config regions fits)
-command_again (command.DropReplication name) fits = all_read 5 (command.DropReplication name) (drop_replication_again name fits)
-command_again (command.Put bucket key tags hold class bytes) fits = all_read 6 (command.Put bucket key tags hold class bytes) (put_again bucket key tags hold class bytes fits)
-command_again (command.Marker bucket key) fits = all_read 7 (command.Marker bucket key) (marker_again bucket key fits)
-command_again (command.Remove bucket key id) fits = all_read 8 (command.Remove bucket key id) (remove_again bucket key id fits)
-command_again (command.SetTags bucket key id tags) fits = all_read 9 (command.SetTags bucket key id tags) (set_tags_again bucket key id tags fits)
-command_again (command.SetHold bucket key id hold) fits = all_read 10 (command.SetHold bucket key id hold) (set_hold_again bucket key id hold fits)
+command_again c fits = (reads_again c fits).all
 
-pub found : (bytes : List ℕ) (r : Result Command RecordFault) → IsBytes bytes → length bytes ≤ 16777216 → Gives (λ c. c) r (command_at bytes) → IfOk r (λ c. IsCommand c × (bytes ≡ spelling c))
+pub found : (bytes : List ℕ) (r : Result Command RecordFault) → IsBytes bytes → length bytes ≤ 16777216 → Gives (λ c. c) r (command_at bytes)
+    → IfOk r (λ c. IsCommand c × (bytes ≡ spelling c))
 found bytes (Ok c) fits short gives =
     let taken = command_takes bytes c fits gives in
     (ruled_is c taken.0 (subst (λ (bytes : List ℕ). length bytes ≤ 16777216) taken.1 short), taken.1)
 found bytes (Err fault) fits short gives = tt
 
-pub only : (bytes : List ℕ) (r : Result Command RecordFault) → Gives (λ c. c) r (command_at bytes) → (c : Command) → IsCommand c → bytes ≡ spelling c → Gives (λ d. d) r (Ok c)
+pub only : (bytes : List ℕ) (r : Result Command RecordFault) → Gives (λ c. c) r (command_at bytes) → (c : Command) → IsCommand c → bytes ≡ spelling c
+    → Gives (λ d. d) r (Ok c)
 only bytes r gives c fits spelled = subst (λ (read : Result Command ℕ). Gives (λ d. d) r read) (ap command_at spelled ∙ command_again c fits) gives
 
 pub one : (c d : Command) → IsCommand c → IsCommand d → spelling c ≡ spelling d → c ≡ d
 one c d c_fits d_fits same = ok_is c d (sym (command_again c c_fits) ∙ ap command_at same ∙ command_again d d_fits)
+
+-- no spelling begins another: the reader of the front tells the command and what follows it
+pub front : (c d : Command) (s t : List ℕ) → IsCommand c → IsCommand d → spelling c ++ s ≡ spelling d ++ t → (c ≡ d) × (s ≡ t)
+front c d s t c_fits d_fits same =
+    let both = ok_is (c, left 0 s) (d, left 0 t)
+    (sym ((reads_again c c_fits).front 0 s) ∙ ap (front_at 0) same ∙ (reads_again d d_fits).front 0 t) in
+    (ap (λ (read : Command × Unread). read.0) both, ap (λ (read : Command × Unread). read.1.bytes) both)

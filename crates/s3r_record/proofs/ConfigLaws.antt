@@ -29,7 +29,8 @@ record Holds (rules : List Rule) (regions : List ℕ) : Type 0 where
 holds-none : Holds [] []
 holds-none = record { lawful = (refl, refl, refl); texts = refl; paired = refl; low = refl; agreed = refl }
 
-holds-push : (rules : List Rule) (regions : List ℕ) (placed : Rule × ℕ) → Holds rules regions → Stands rules regions placed → Holds (rules ++ placed.0 ∷ []) (regions ++ placed.1 ∷ [])
+holds-push : (rules : List Rule) (regions : List ℕ) (placed : Rule × ℕ) → Holds rules regions → Stands rules regions placed
+    → Holds (rules ++ placed.0 ∷ []) (regions ++ placed.1 ∷ [])
 holds-push rules regions placed holds stands =
     let agreed : agree (zip rules regions ++ placed ∷ []) ≡ true = agree-push (zip rules regions) placed holds.agreed stands.beside in
     record {
@@ -56,15 +57,27 @@ record Grown (rules : List Rule) (regions : List ℕ) (count : ℕ) (bytes : Lis
   pub takes : Takes bytes (flat_map rule_bytes (zip more beside)) x.1.bytes
   pub holds : Holds x.0.0 x.0.1
 
-grows : (count : ℕ) (rules : List Rule) (regions : List ℕ) (u : Unread) (x : (List Rule × List ℕ) × Unread) → IsBytes u.bytes → Holds rules regions → rules_after count rules regions u ≡ Ok x → Grown rules regions count u.bytes x
+grows : (count : ℕ) (rules : List Rule) (regions : List ℕ) (u : Unread) (x : (List Rule × List ℕ) × Unread) → IsBytes u.bytes → Holds rules regions
+    → rules_after count rules regions u ≡ Ok x → Grown rules regions count u.bytes x
 unfolding rules_after
 grows zero rules regions u x fits holds e =
     subst (λ (y : (List Rule × List ℕ) × Unread). Grown rules regions zero u.bytes y) (ok_is ((rules, regions), u) x e)
-    (record { more = []; beside = []; rules_are = append-nil rules; regions_are = append-nil regions; counted = refl; takes = record { parts = refl; rest_fits = fits }; holds = holds })
+    (record {
+      more = [];
+      beside = [];
+      rules_are = append-nil rules;
+      regions_are = append-nil regions;
+      counted = refl;
+      takes =
+          record { parts = refl; rest_fits = fits };
+      holds = holds;
+    })
 grows (suc count) rules regions u x fits holds e =
     let first = take_field (rule_law rules regions) (λ rule. rules_after count (rules ++ rule.0.0 ∷ []) (regions ++ rule.0.1 ∷ []) rule.1) u x fits e in
-    let others = grows count (rules ++ first.value.0 ∷ []) (regions ++ first.value.1 ∷ []) first.rest x first.takes.rest_fits (holds-push rules regions first.value holds first.fits) first.gave in
-    let both = Takes-then u.bytes (rule_bytes first.value) first.rest.bytes (flat_map rule_bytes (zip others.more others.beside)) x.1.bytes first.takes others.takes in
+    let others = grows count (rules ++ first.value.0 ∷ []) (regions ++ first.value.1 ∷ []) first.rest x first.takes.rest_fits
+    (holds-push rules regions first.value holds first.fits) first.gave in
+    let both = Takes-then u.bytes (rule_bytes first.value) first.rest.bytes
+    (flat_map rule_bytes (zip others.more others.beside)) x.1.bytes first.takes others.takes in
     record {
       more = first.value.0 ∷ others.more;
       beside = first.value.1 ∷ others.beside;
@@ -80,7 +93,8 @@ grows (suc count) rules regions u x fits holds e =
 rules_again : (more rules : List Rule) (beside regions : List ℕ) (whole : ℕ) (rest : List ℕ) → length beside ≡ length more → length regions ≡ length rules
     → list_all is_rule more ≡ true → are_apart has_id (rules ++ more) ≡ true → are_apart has_priority (rules ++ more) ≡ true → list_all has_texts more ≡ true
     → list_all (λ region. nat_le region 7) beside ≡ true → agree (zip rules regions ++ zip more beside) ≡ true
-    → rules_after (length more) rules regions (left whole (flat_map rule_bytes (zip more beside) ++ rest)) ≡ Ok ((rules ++ more, regions ++ beside), left whole rest)
+    → rules_after (length more) rules regions (left whole (flat_map rule_bytes (zip more beside) ++ rest)) ≡ Ok
+    ((rules ++ more, regions ++ beside), left whole rest)
 unfolding rules_after
 rules_again [] rules [] regions whole rest paired even ruled ids priorities texts low agreed =
     rw (append-nil rules, append-nil regions) refl
@@ -98,27 +112,35 @@ rules_again (rule ∷ more) rules (region ∷ beside) regions whole rest paired 
     } in
     let pairs = zip more beside in
     let regrouped : flat_map rule_bytes ((rule, region) ∷ pairs) ++ rest ≡ rule_bytes (rule, region) ++ (flat_map rule_bytes pairs ++ rest) =
-    ap (λ (bytes : List ℕ). bytes ++ rest) (flat_map-cons rule_bytes (rule, region) pairs) ∙ append_assoc (rule_bytes (rule, region)) (flat_map rule_bytes pairs) rest in
+    ap (λ (bytes : List ℕ). bytes ++ rest) (flat_map-cons rule_bytes (rule, region) pairs)
+    ∙ append_assoc (rule_bytes (rule, region)) (flat_map rule_bytes pairs) rest in
     let rules_one = append_assoc rules (rule ∷ []) more in
     let regions_one = append_assoc regions (region ∷ []) beside in
     let pairs_one : zip (rules ++ rule ∷ []) (regions ++ region ∷ []) ++ pairs ≡ zip rules regions ++ (rule, region) ∷ pairs =
-    ap (λ (before : List (Rule × ℕ)). before ++ pairs) (zip-push rules regions rule region even) ∙ append_assoc (zip rules regions) ((rule, region) ∷ []) pairs in
-    let evens : length (regions ++ region ∷ []) ≡ length (rules ++ rule ∷ []) = omega (arith, length-append rules (rule ∷ []), length-append regions (region ∷ []), even) in
+    ap (λ (before : List (Rule × ℕ)). before ++ pairs) (zip-push rules regions rule region even)
+    ∙ append_assoc (zip rules regions) ((rule, region) ∷ []) pairs in
+    let evens : length (regions ++ region ∷ []) ≡ length (rules ++ rule ∷ []) =
+    omega (arith, length-append rules (rule ∷ []), length-append regions (region ∷ []), even) in
     ap (λ (bytes : List ℕ). rules_after (suc (length more)) rules regions (left whole bytes)) regrouped
-    ∙ read_again (rule_law rules regions) (λ rule. rules_after (length more) (rules ++ rule.0.0 ∷ []) (regions ++ rule.0.1 ∷ []) rule.1) whole (rule, region) (flat_map rule_bytes pairs ++ rest) stands
-    ∙ rules_again more (rules ++ rule ∷ []) beside (regions ++ region ∷ []) whole rest (omega arith) evens r.1 (ap (are_apart has_id) rules_one ∙ ids) (ap (are_apart has_priority) rules_one ∙ priorities) t.1 l.1 (ap agree pairs_one ∙ agreed)
-    ∙ ap (λ (all : List Rule × List ℕ). Ok (all, left whole rest)) (ap (λ (rules : List Rule). (rules, (regions ++ region ∷ []) ++ beside)) rules_one ∙ ap (λ (regions : List ℕ). (rules ++ rule ∷ more, regions)) regions_one)
+    ∙ read_again (rule_law rules regions) (λ rule. rules_after (length more) (rules ++ rule.0.0 ∷ []) (regions ++ rule.0.1 ∷ []) rule.1) whole (rule, region)
+    (flat_map rule_bytes pairs ++ rest) stands
+    ∙ rules_again more (rules ++ rule ∷ []) beside (regions ++ region ∷ []) whole rest (omega arith) evens r.1 (ap (are_apart has_id) rules_one ∙ ids)
+    (ap (are_apart has_priority) rules_one ∙ priorities) t.1 l.1 (ap agree pairs_one ∙ agreed)
+    ∙ ap (λ (all : List Rule × List ℕ). Ok (all, left whole rest)) (ap (λ (rules : List Rule). (rules, (regions ++ region ∷ []) ++ beside)) rules_one
+    ∙ ap (λ (regions : List ℕ). (rules ++ rule ∷ more, regions)) regions_one)
 
 -- ---- the count
 
-count_takes : (u : Unread) (x : ℕ × Unread) → IsBytes u.bytes → count_at u ≡ Ok x → Takes u.bytes (to_be_bytes w16 x.0) x.1.bytes × ((nat_le 1 x.0 && nat_le x.0 1000) ≡ true)
+count_takes : (u : Unread) (x : ℕ × Unread) → IsBytes u.bytes → count_at u ≡ Ok x → Takes u.bytes (to_be_bytes w16 x.0) x.1.bytes
+    × ((nat_le 1 x.0 && nat_le x.0 1000) ≡ true)
 unfolding count_at
 count_takes u x fits e =
     let count = take_field (number_law w16 (2 ^ 16) wide16) (λ count. cond (nat_le 1 count.0 && nat_le count.0 1000) (Ok count) (Err (place u))) u x fits e in
     let g = guard_passed (nat_le 1 count.value && nat_le count.value 1000) (place u) (count.value, count.rest) x count.gave in
     subst (λ (y : ℕ × Unread). Takes u.bytes (to_be_bytes w16 y.0) y.1.bytes × ((nat_le 1 y.0 && nat_le y.0 1000) ≡ true)) g.1 (count.takes, g.0)
 
-count_again : (whole count : ℕ) (rest : List ℕ) → (nat_le 1 count && nat_le count 1000) ≡ true → count_at (left whole (to_be_bytes w16 count ++ rest)) ≡ Ok (count, left whole rest)
+count_again : (whole count : ℕ) (rest : List ℕ) → (nat_le 1 count && nat_le count 1000) ≡ true
+    → count_at (left whole (to_be_bytes w16 count ++ rest)) ≡ Ok (count, left whole rest)
 unfolding count_at
 count_again whole count rest is =
     let parts = and_parts (nat_le 1 count) (nat_le count 1000) is in
@@ -142,13 +164,15 @@ config_is : (rules : List Rule) → Lawful rules → (nat_le 1 (length rules) &&
 config_is rules lawful count = rw (count, lawful.0, lawful.1, lawful.2) refl
 
 -- what the rules behind a count are
-pub rules_placed : (u : Unread) (count : ℕ) (x : (List Rule × List ℕ) × Unread) → IsBytes u.bytes → (nat_le 1 count && nat_le count 1000) ≡ true → rules_after count [] [] u ≡ Ok x
+pub rules_placed : (u : Unread) (count : ℕ) (x : (List Rule × List ℕ) × Unread) → IsBytes u.bytes → (nat_le 1 count && nat_le count 1000) ≡ true
+    → rules_after count [] [] u ≡ Ok x
     → Takes u.bytes (flat_map rule_bytes (zip x.0.0 x.0.1)) x.1.bytes × (length x.0.0 ≡ count) × Placed x.0
 rules_placed u count x fits is e =
     let grown = grows count [] [] u x fits holds-none e in
     let counted : length x.0.0 ≡ count = ap length (sym grown.rules_are) ∙ grown.counted in
     let takes : Takes u.bytes (flat_map rule_bytes (zip x.0.0 x.0.1)) x.1.bytes =
-    subst (λ (bytes : List ℕ). Takes u.bytes bytes x.1.bytes) (ap (λ (rules : List Rule). flat_map rule_bytes (zip rules grown.beside)) grown.rules_are ∙ ap (λ (regions : List ℕ). flat_map rule_bytes (zip x.0.0 regions)) grown.regions_are) grown.takes in (
+    subst (λ (bytes : List ℕ). Takes u.bytes bytes x.1.bytes) (ap (λ (rules : List Rule). flat_map rule_bytes (zip rules grown.beside)) grown.rules_are
+    ∙ ap (λ (regions : List ℕ). flat_map rule_bytes (zip x.0.0 regions)) grown.regions_are) grown.takes in (
       takes,
       counted,
       record {
@@ -189,7 +213,8 @@ rules_read_again whole x rest placed =
     let behind = flat_map rule_bytes (zip x.0 x.1) in
     ap (λ (bytes : List ℕ). rules_at (left whole bytes)) (append_assoc (to_be_bytes w16 (length x.0)) behind rest)
     ∙ read_again count_law (λ count. rules_after count.0 [] [] count.1) whole (length x.0) (behind ++ rest) config.count
-    ∙ rules_again x.0 [] x.1 [] whole rest placed.placed.count refl config.ruled config.ids config.priorities placed.texts placed.placed.regions placed.placed.agree
+    ∙ rules_again x.0 [] x.1 [] whole rest placed.placed.count refl config.ruled config.ids config.priorities placed.texts placed.placed.regions
+    placed.placed.agree
 
 pub rules_law : Reads rules_at spelled Placed
 rules_law = record { takes = rules_take; again = rules_read_again }
@@ -203,7 +228,8 @@ pub not_refused : (passes : Bool) (rules : List Rule) → passes ≡ true → co
 not_refused true rules passed made = cc
 not_refused false rules passed made = cc
 
-lawful : (count : ℕ) (rules : List Rule) (regions : List ℕ) (u : Unread) (x : (List Rule × List ℕ) × Unread) → Lawful rules → rules_after count rules regions u ≡ Ok x → Lawful x.0.0 × (length x.0.0 ≡ length rules + count)
+lawful : (count : ℕ) (rules : List Rule) (regions : List ℕ) (u : Unread) (x : (List Rule × List ℕ) × Unread) → Lawful rules
+    → rules_after count rules regions u ≡ Ok x → Lawful x.0.0 × (length x.0.0 ≡ length rules + count)
 unfolding rules_after
 lawful zero rules regions u x so_far e =
     subst (λ (y : (List Rule × List ℕ) × Unread). Lawful y.0.0 × (length y.0.0 ≡ length rules + 0)) (ok_is ((rules, regions), u) x e) (so_far, omega arith)
@@ -211,7 +237,11 @@ lawful (suc count) rules regions u x so_far e =
     let first = bind_ok (rule_at rules regions u) (λ rule. rules_after count (rules ++ rule.0.0 ∷ []) (regions ++ rule.0.1 ∷ []) rule.1) x e in
     let rule = first.0.0.0 in
     let fits = rule_fits rules regions u first.0 first.1 in
-    let next : Lawful (rules ++ rule ∷ []) = (all-snoc is_rule rules rule so_far.0 fits.0, apart-snoc has_id rules rule so_far.1 fits.1, apart-snoc has_priority rules rule so_far.2 fits.2) in
+    let next : Lawful (rules ++ rule ∷ []) = (
+      all-snoc is_rule rules rule so_far.0 fits.0,
+      apart-snoc has_id rules rule so_far.1 fits.1,
+      apart-snoc has_priority rules rule so_far.2 fits.2,
+    ) in
     let others = lawful count (rules ++ rule ∷ []) (regions ++ first.0.0.1 ∷ []) first.0.1 x next first.2 in
     (others.0, omega (arith, others.1, length-append rules (rule ∷ [])))
 
@@ -223,7 +253,8 @@ count_is u x e =
     subst (λ (y : ℕ × Unread). (nat_le 1 y.0 && nat_le y.0 1000) ≡ true) g.1 g.0
 
 -- the rules behind a count are a configuration, whatever the bytes are
-pub config_read : (u after last : Unread) (count : ℕ) (rules : List Rule) (regions : List ℕ) → count_at u ≡ Ok (count, after) → rules_after count [] [] after ≡ Ok ((rules, regions), last) → is_config rules ≡ true
+pub config_read : (u after last : Unread) (count : ℕ) (rules : List Rule) (regions : List ℕ) → count_at u ≡ Ok (count, after)
+    → rules_after count [] [] after ≡ Ok ((rules, regions), last) → is_config rules ≡ true
 config_read u after last count rules regions counted read =
     let done = lawful count [] [] after ((rules, regions), last) (refl, refl, refl) read in
     let long : length rules ≡ count = omega (arith, done.1) in

@@ -82,7 +82,8 @@ unfolding command_at fields_at put_at tested_at sized_at flag_at tags_at byte_at
 hi_read = refl
 
 rising_tags_read : command_at (to_tags ++ (2 ∷ 0 ∷ 1 ∷ 97 ∷ 0 ∷ 0 ∷ 0 ∷ 1 ∷ 98 ∷ 0 ∷ 1 ∷ 99 ∷ []) ++ from_hold)
-    ≡ Ok (command.Put (codes "abc") (codes "a") (record { key = codes "a"; value = [] } ∷ record { key = codes "b"; value = codes "c" } ∷ []) false (codes "STANDARD") (codes "hi"))
+    ≡ Ok (command.Put (codes "abc") (codes "a") (record { key = codes "a"; value = [] } ∷ record { key = codes "b"; value = codes "c" } ∷ []) false
+    (codes "STANDARD") (codes "hi"))
 unfolding command_at fields_at put_at tested_at sized_at flag_at tags_at byte_at tags_after tag_at is_utf8 chars lib.Utf8.encode
 rising_tags_read = refl
 
@@ -172,7 +173,18 @@ other_hold = refl
 -- ---- a configuration of bucket abc: a rule r to abc, in region 1
 
 abbrev r : Rule
-r = record { id = codes "r"; priority = 1; enabled = true; prefix = []; tags = []; markers = false; bucket = codes "abc"; class = None; replica_modifications = false }
+r = record {
+  id = codes "r";
+  priority = 1;
+  enabled = true;
+  prefix = [];
+  tags = [];
+  markers = false;
+  bucket = codes "abc";
+  class =
+      None;
+  replica_modifications = false;
+}
 
 abbrev r_bytes : List ℕ
 r_bytes = 0 ∷ 1 ∷ 114 ∷ 0 ∷ 0 ∷ 0 ∷ 1 ∷ 1 ∷ 0 ∷ 0 ∷ 0 ∷ 0 ∷ 0 ∷ 3 ∷ 97 ∷ 98 ∷ 99 ∷ 1 ∷ 0 ∷ 0 ∷ []
@@ -184,7 +196,8 @@ replication_spelled : spelling (command.SetReplication (codes "abc") (r ∷ []) 
 replication_spelled = refl
 
 replication_read : command_at (to_rules 1 ++ r_bytes) ≡ Ok (command.SetReplication (codes "abc") (r ∷ []) (1 ∷ []))
-unfolding command_at fields_at set_replication_at tested_at sized_at flag_at byte_at region_at tags_at tags_after option_text_at front_at back_at rule_at rules_after count_at rules_at rule_from is_utf8 chars lib.Utf8.encode
+unfolding command_at fields_at set_replication_at tested_at sized_at flag_at byte_at region_at tags_at tags_after option_text_at front_at back_at rule_at
+    rules_after count_at rules_at rule_from is_utf8 chars lib.Utf8.encode
 replication_read = refl
 
 no_rules : command_at (to_rules 0) ≡ fault_at 6
@@ -193,7 +206,8 @@ no_rules = refl
 
 -- the second rule has the first one's ID
 same_rule : command_at (to_rules 2 ++ r_bytes ++ r_bytes) ≡ fault_at 28
-unfolding command_at fields_at set_replication_at tested_at sized_at flag_at byte_at region_at tags_at tags_after option_text_at front_at back_at rule_at rules_after count_at rules_at rule_from is_utf8 chars lib.Utf8.encode
+unfolding command_at fields_at set_replication_at tested_at sized_at flag_at byte_at region_at tags_at tags_after option_text_at front_at back_at rule_at
+    rules_after count_at rules_at rule_from is_utf8 chars lib.Utf8.encode
 same_rule = refl
 
 drop_read : command_at (5 ∷ 0 ∷ 3 ∷ 97 ∷ 98 ∷ 99 ∷ []) ≡ Ok (command.DropReplication (codes "abc"))

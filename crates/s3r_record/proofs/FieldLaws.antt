@@ -47,15 +47,20 @@ wide64 = record {
   below = λ bytes fits. omega (arith, fits 0, fits 1, fits 2, fits 3, fits 4, fits 5, fits 6, fits 7);
 }
 
-number_takes : (w : Width) (limit : ℕ) (wide : IsWide w limit) (u : Unread) (x : ℕ × Unread) → IsBytes u.bytes → number_at w u ≡ Ok x → Takes u.bytes (to_be_bytes w x.0) x.1.bytes × (x.0 < limit)
+number_takes : (w : Width) (limit : ℕ) (wide : IsWide w limit) (u : Unread) (x : ℕ × Unread) → IsBytes u.bytes → number_at w u ≡ Ok x
+    → Takes u.bytes (to_be_bytes w x.0) x.1.bytes × (x.0 < limit)
 number_takes w limit wide u x fits e =
     let g = guard_missed (ltb (length u.bytes) (byte_len w)) (place u) (from_be_bytes w (take (byte_len w) u.bytes), past (byte_len w) u) x e in
     let long : byte_len w ≤ length u.bytes = ltb-false _ _ g.0 in
-    let front : to_be_bytes w (from_be_bytes w (take (byte_len w) u.bytes)) ≡ take (byte_len w) u.bytes = wide.back (take (byte_len w) u.bytes) (omega (arith, length-take (byte_len w) u.bytes)) (IsBytes-take (byte_len w) u.bytes fits) in
-    subst (λ (y : ℕ × Unread). Takes u.bytes (to_be_bytes w y.0) y.1.bytes × (y.0 < limit)) g.1
-    (record { parts = rw front (sym (take-append-drop (byte_len w) u.bytes)); rest_fits = IsBytes-drop (byte_len w) u.bytes fits }, wide.below (take (byte_len w) u.bytes) (IsBytes-take (byte_len w) u.bytes fits))
+    let front : to_be_bytes w (from_be_bytes w (take (byte_len w) u.bytes)) ≡ take (byte_len w) u.bytes =
+    wide.back (take (byte_len w) u.bytes) (omega (arith, length-take (byte_len w) u.bytes)) (IsBytes-take (byte_len w) u.bytes fits) in
+    subst (λ (y : ℕ × Unread). Takes u.bytes (to_be_bytes w y.0) y.1.bytes × (y.0 < limit)) g.1 (
+      record { parts = rw front (sym (take-append-drop (byte_len w) u.bytes)); rest_fits = IsBytes-drop (byte_len w) u.bytes fits },
+      wide.below (take (byte_len w) u.bytes) (IsBytes-take (byte_len w) u.bytes fits),
+    )
 
-number_again : (w : Width) (limit : ℕ) (wide : IsWide w limit) (whole n : ℕ) (rest : List ℕ) → n < limit → number_at w (left whole (to_be_bytes w n ++ rest)) ≡ Ok (n, left whole rest)
+number_again : (w : Width) (limit : ℕ) (wide : IsWide w limit) (whole n : ℕ) (rest : List ℕ) → n < limit
+    → number_at w (left whole (to_be_bytes w n ++ rest)) ≡ Ok (n, left whole rest)
 number_again w limit wide whole n rest lt =
     let len = wide.len n in
     let long : ltb (length (to_be_bytes w n ++ rest)) (byte_len w) ≡ false = le-ltb _ _ (omega (arith, length-append (to_be_bytes w n) rest)) in
@@ -78,7 +83,8 @@ byte_read most whole (byte ∷ bytes) x e =
     let read = bind_ok (cond (nat_le byte most) (Ok (byte, bytes)) (Err (place (left whole (byte ∷ bytes))))) (λ read. Ok (read.0, left whole read.1)) x e in
     let g = guard_passed (nat_le byte most) (place (left whole (byte ∷ bytes))) (byte, bytes) read.0 read.1 in
     let same : (read.0.0, left whole read.0.1) ≡ x = ok_is (read.0.0, left whole read.0.1) x read.2 in
-    subst (IsFirst most (left whole (byte ∷ bytes))) (ap (λ (r : ℕ × List ℕ). (r.0, left whole r.1)) g.1 ∙ same) (record { parts = refl; few = leb-true byte most g.0 })
+    subst (IsFirst most (left whole (byte ∷ bytes))) (ap (λ (r : ℕ × List ℕ). (r.0, left whole r.1)) g.1 ∙ same)
+    (record { parts = refl; few = leb-true byte most g.0 })
 
 pub byte_is : (most : ℕ) (u : Unread) (x : ℕ × Unread) → byte_at most u ≡ Ok x → IsFirst most u x
 byte_is most u x e = byte_read most u.whole u.bytes x e
@@ -101,9 +107,11 @@ flag_takes : (whole : ℕ) (bytes : List ℕ) (x : Bool × Unread) → IsBytes b
 unfolding flag_at
 flag_takes whole [] x fits e = absurd cc
 flag_takes whole (zero ∷ bytes) x fits e =
-    subst (λ (y : Bool × Unread). Takes (0 ∷ bytes) (flag y.0) y.1.bytes × Unit {0}) (ok_is (false, left whole bytes) x e) (record { parts = refl; rest_fits = IsBytes-rest 0 bytes fits }, tt)
+    subst (λ (y : Bool × Unread). Takes (0 ∷ bytes) (flag y.0) y.1.bytes
+    × Unit {0}) (ok_is (false, left whole bytes) x e) (record { parts = refl; rest_fits = IsBytes-rest 0 bytes fits }, tt)
 flag_takes whole (suc zero ∷ bytes) x fits e =
-    subst (λ (y : Bool × Unread). Takes (1 ∷ bytes) (flag y.0) y.1.bytes × Unit {0}) (ok_is (true, left whole bytes) x e) (record { parts = refl; rest_fits = IsBytes-rest 1 bytes fits }, tt)
+    subst (λ (y : Bool × Unread). Takes (1 ∷ bytes) (flag y.0) y.1.bytes
+    × Unit {0}) (ok_is (true, left whole bytes) x e) (record { parts = refl; rest_fits = IsBytes-rest 1 bytes fits }, tt)
 flag_takes whole (suc (suc b) ∷ bytes) x fits e = absurd cc
 
 flag_again : (whole : ℕ) (x : Bool) (rest : List ℕ) → Unit {0} → flag_at (left whole (flag x ++ rest)) ≡ Ok (x, left whole rest)
@@ -116,24 +124,34 @@ flag_law = record { takes = λ u x fits e. flag_takes u.whole u.bytes x fits e; 
 
 -- ---- a length, and that many bytes
 
-sized_takes : (w : Width) (limit : ℕ) → IsWide w limit → (u : Unread) (x : List ℕ × Unread) → IsBytes u.bytes → sized_at w u ≡ Ok x → Takes u.bytes (sized w x.0) x.1.bytes × (length x.0 < limit)
+sized_takes : (w : Width) (limit : ℕ) → IsWide w limit → (u : Unread) (x : List ℕ × Unread) → IsBytes u.bytes → sized_at w u ≡ Ok x
+    → Takes u.bytes (sized w x.0) x.1.bytes × (length x.0 < limit)
 unfolding sized_at
 sized_takes w limit wide u x fits e =
-    let n = take_field (number_law w limit wide) (λ len. cond (ltb (length len.1.bytes) len.0) (Err (place u)) (Ok (take len.0 len.1.bytes, past len.0 len.1))) u x fits e in
+    let n = take_field (number_law w limit wide) (λ len. cond (ltb (length len.1.bytes) len.0) (Err (place u))
+    (Ok (take len.0 len.1.bytes, past len.0 len.1))) u x fits e in
     let g = guard_missed (ltb (length n.rest.bytes) n.value) (place u) (take n.value n.rest.bytes, past n.value n.rest) x n.gave in
     let long : n.value ≤ length n.rest.bytes = ltb-false _ _ g.0 in
     let len : length (take n.value n.rest.bytes) ≡ n.value = omega (arith, length-take n.value n.rest.bytes) in
-    let second : Takes n.rest.bytes (take n.value n.rest.bytes) (drop n.value n.rest.bytes) = record { parts = sym (take-append-drop n.value n.rest.bytes); rest_fits = IsBytes-drop n.value n.rest.bytes n.takes.rest_fits } in
+    let second : Takes n.rest.bytes (take n.value n.rest.bytes) (drop n.value n.rest.bytes) =
+    record { parts = sym (take-append-drop n.value n.rest.bytes); rest_fits = IsBytes-drop n.value n.rest.bytes n.takes.rest_fits } in
     let both = Takes-then u.bytes (to_be_bytes w n.value) n.rest.bytes (take n.value n.rest.bytes) (drop n.value n.rest.bytes) n.takes second in
-    let whole : Takes u.bytes (sized w (take n.value n.rest.bytes)) (drop n.value n.rest.bytes) = subst (λ (k : ℕ). Takes u.bytes (to_be_bytes w k ++ take n.value n.rest.bytes) (drop n.value n.rest.bytes)) (sym len) both in
+    let whole : Takes u.bytes (sized w (take n.value n.rest.bytes)) (drop n.value n.rest.bytes) =
+    subst (λ (k : ℕ). Takes u.bytes (to_be_bytes w k ++ take n.value n.rest.bytes) (drop n.value n.rest.bytes)) (sym len) both in
     subst (λ (p : List ℕ × Unread). Takes u.bytes (sized w p.0) p.1.bytes × (length p.0 < limit)) g.1 (whole, omega (arith, n.fits))
 
-sized_again : (w : Width) (limit : ℕ) → IsWide w limit → (whole : ℕ) (bytes rest : List ℕ) → length bytes < limit → sized_at w (left whole (sized w bytes ++ rest)) ≡ Ok (bytes, left whole rest)
+sized_again : (w : Width) (limit : ℕ) → IsWide w limit → (whole : ℕ) (bytes rest : List ℕ) → length bytes < limit
+    → sized_at w (left whole (sized w bytes ++ rest)) ≡ Ok (bytes, left whole rest)
 unfolding sized_at
 sized_again w limit wide whole bytes rest lt =
     let long : ltb (length (bytes ++ rest)) (length bytes) ≡ false = le-ltb _ _ (omega (arith, length-append bytes rest)) in
     ap (λ (all : List ℕ). sized_at w (left whole all)) (append_assoc (to_be_bytes w (length bytes)) bytes rest)
-    ∙ rw (number_again w limit wide whole (length bytes) (bytes ++ rest) lt, long, take_at bytes rest (length bytes) refl, drop_at bytes rest (length bytes) refl) refl
+    ∙ rw (
+      number_again w limit wide whole (length bytes) (bytes ++ rest) lt,
+      long,
+      take_at bytes rest (length bytes) refl,
+      drop_at bytes rest (length bytes) refl,
+    ) refl
 
 pub sized_law : (w : Width) (limit : ℕ) → IsWide w limit → Reads (sized_at w) (sized w) (λ bytes. length bytes < limit)
 sized_law w limit wide = record { takes = sized_takes w limit wide; again = sized_again w limit wide }
@@ -155,7 +173,8 @@ tested_passes w test u x e =
 abbrev pub Tested : (List ℕ → Bool) → ℕ → List ℕ → Type 0
 Tested test limit bytes = (test bytes ≡ true) × (length bytes < limit)
 
-tested_takes : (w : Width) (limit : ℕ) → IsWide w limit → (test : List ℕ → Bool) (u : Unread) (x : List ℕ × Unread) → IsBytes u.bytes → tested_at w test u ≡ Ok x → Takes u.bytes (sized w x.0) x.1.bytes × Tested test limit x.0
+tested_takes : (w : Width) (limit : ℕ) → IsWide w limit → (test : List ℕ → Bool) (u : Unread) (x : List ℕ × Unread) → IsBytes u.bytes
+    → tested_at w test u ≡ Ok x → Takes u.bytes (sized w x.0) x.1.bytes × Tested test limit x.0
 unfolding tested_at
 tested_takes w limit wide test u x fits e =
     let t = take_field (sized_law w limit wide) (λ read. cond (test read.0) (Ok read) (Err (place u))) u x fits e in
@@ -170,7 +189,8 @@ tested_again w limit wide test whole bytes rest passed = rw (sized_again w limit
 tested_law : (w : Width) (limit : ℕ) → IsWide w limit → (test : List ℕ → Bool) → Reads (tested_at w test) (sized w) (Tested test limit)
 tested_law w limit wide test = record { takes = tested_takes w limit wide test; again = tested_again w limit wide test }
 
-short_law : (w : Width) (limit : ℕ) → IsWide w limit → (test : List ℕ → Bool) → IsShortTest test limit → Reads (tested_at w test) (sized w) (λ bytes. test bytes ≡ true)
+short_law : (w : Width) (limit : ℕ) → IsWide w limit → (test : List ℕ → Bool) → IsShortTest test limit
+    → Reads (tested_at w test) (sized w) (λ bytes. test bytes ≡ true)
 short_law w limit wide test short = Reads-as (tested_law w limit wide test) (λ bytes tested. tested.0) (λ bytes passed. (passed, short bytes passed))
 
 pub text_law : (test : List ℕ → Bool) → Reads (tested_at w16 test) text (Tested test (2 ^ 16))

@@ -35,5 +35,6 @@ pub id_law : Reads id_at id_bytes IsVersionId
 unfolding id_at
 id_law =
     reads
-    (take_then _ region_law (λ region low. take_then _ index_law (λ index is. take_end (record { region = region; index = index }) (record { region = low; above = is.0; below = is.1 }))))
+    (take_then _ region_law (λ region low. take_then _ index_law (λ index is. take_end (record { region = region; index = index })
+    (record { region = low; above = is.0; below = is.1 }))))
     (λ id is. again_then _ region_law id.region is.region (again_then _ index_law id.index (is.above, is.below) (again_end id)))

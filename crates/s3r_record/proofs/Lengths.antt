@@ -64,7 +64,13 @@ length-tags : (tags : List Tag) → list_all is_tag tags ≡ true → length (fl
 length-tags [] ruled = omega arith
 length-tags (tag ∷ tags) ruled =
     let r = and_parts (is_tag tag) (list_all is_tag tags) ruled in
-    omega (arith, ap length (flat_map-cons tag_bytes tag tags), length-append (tag_bytes tag) (flat_map tag_bytes tags), length-tag_bytes tag r.0, length-tags tags r.1)
+    omega (
+      arith,
+      ap length (flat_map-cons tag_bytes tag tags),
+      length-append (tag_bytes tag) (flat_map tag_bytes tags),
+      length-tag_bytes tag r.0,
+      length-tags tags r.1,
+    )
 
 tags_short : (tags : List Tag) → is_tag_set tags ≡ true → IsShort 15401 (tags_bytes tags)
 tags_short tags ruled = let set = set_is tags ruled in record { short = omega (arith, length-tags tags set.ruled, set.few) }
@@ -84,11 +90,14 @@ spelling_short (command.SetVersioning name enabled) is = fits 3 (joined (bucket_
 spelling_short (command.SetReplication name config regions) is = is.3
 spelling_short (command.DropReplication name) is = fits 5 (bucket_short name is) (lit< tt)
 spelling_short (command.Put bucket key tags hold class bytes) is =
-    fits 6 (joined (joined (joined (joined (joined (bucket_short bucket is.0) (key_short key is.1)) (tags_short tags is.2)) (flag_short hold)) (class_short class is.3)) (body_short bytes is.4)) (lit< tt)
+    fits 6 (joined (joined (joined (joined (joined (bucket_short bucket is.0) (key_short key is.1)) (tags_short tags is.2)) (flag_short hold))
+    (class_short class is.3)) (body_short bytes is.4)) (lit< tt)
 spelling_short (command.Marker bucket key) is = fits 7 (joined (bucket_short bucket is.0) (key_short key is.1)) (lit< tt)
 spelling_short (command.Remove bucket key id) is = fits 8 (joined (joined (bucket_short bucket is.0) (key_short key is.1)) (id_short id)) (lit< tt)
-spelling_short (command.SetTags bucket key id tags) is = fits 9 (joined (joined (joined (bucket_short bucket is.0) (key_short key is.1)) (id_short id)) (tags_short tags is.3)) (lit< tt)
-spelling_short (command.SetHold bucket key id hold) is = fits 10 (joined (joined (joined (bucket_short bucket is.0) (key_short key is.1)) (id_short id)) (flag_short hold)) (lit< tt)
+spelling_short (command.SetTags bucket key id tags) is = fits 9 (joined (joined (joined (bucket_short bucket is.0) (key_short key is.1)) (id_short id))
+    (tags_short tags is.3)) (lit< tt)
+spelling_short (command.SetHold bucket key id hold) is = fits 10 (joined (joined (joined (bucket_short bucket is.0) (key_short key is.1)) (id_short id))
+    (flag_short hold)) (lit< tt)
 
 pub meets_limits : (c : Command) → IsCommand c → MeetsLimits c
 meets_limits (command.CreateBucket name locked) is = tt
@@ -107,7 +116,8 @@ meets_limits (command.SetHold bucket key id hold) is = is.2
 length-rule : (rule : Rule) (r s : ℕ) → length (rule_bytes (rule, r)) ≡ length (rule_bytes (rule, s))
 length-rule rule r s = simp length-append refl
 
-length-rules : (rules : List Rule) (r s : List ℕ) → length r ≡ length rules → length s ≡ length rules → length (flat_map rule_bytes (zip rules r)) ≡ length (flat_map rule_bytes (zip rules s))
+length-rules : (rules : List Rule) (r s : List ℕ) → length r ≡ length rules → length s ≡ length rules
+    → length (flat_map rule_bytes (zip rules r)) ≡ length (flat_map rule_bytes (zip rules s))
 length-rules [] r s e f = refl
 length-rules (rule ∷ rules) [] s e f = absurd (omega arith)
 length-rules (rule ∷ rules) (a ∷ r) [] e f = absurd (omega arith)
@@ -122,7 +132,8 @@ length-rules (rule ∷ rules) (a ∷ r) (b ∷ s) e f =
       length-rules rules r s (omega arith) (omega arith),
     )
 
-pub regions_keep : (name : List ℕ) (rules : List Rule) (regions : List ℕ) → length regions ≡ length rules → fits_record name rules ≡ true → length (spelling (command.SetReplication name rules regions)) ≤ 16777216
+pub regions_keep : (name : List ℕ) (rules : List Rule) (regions : List ℕ) → length regions ≡ length rules → fits_record name rules ≡ true
+    → length (spelling (command.SetReplication name rules regions)) ≤ 16777216
 regions_keep name rules regions paired short =
     let none = map (λ (rule : Rule). 0) rules in
     let same = length-rules rules regions none paired (length-map rules (λ (rule : Rule). 0)) in

@@ -62,7 +62,8 @@ pub record Reads {A : Type 0} (read : Unread → Result (A × Unread) ℕ) (spel
   pub again : (whole : ℕ) (x : A) (rest : List ℕ) → Fits x → read (left whole (spell x ++ rest)) ≡ Ok (x, left whole rest)
 
 -- the same field, whose values are told by another rule
-pub Reads-as : {A : Type 0} {read : Unread → Result (A × Unread) ℕ} {spell : A → List ℕ} {Fits Rule : A → Type 0} → Reads read spell Fits → ((x : A) → Fits x → Rule x) → ((x : A) → Rule x → Fits x) → Reads read spell Rule
+pub Reads-as : {A : Type 0} {read : Unread → Result (A × Unread) ℕ} {spell : A → List ℕ} {Fits Rule : A → Type 0} → Reads read spell Fits
+    → ((x : A) → Fits x → Rule x) → ((x : A) → Rule x → Fits x) → Reads read spell Rule
 Reads-as law to from = record {
   takes = λ u x fits e. let t = law.takes u x fits e in (t.0, to x.0 t.1);
   again = λ whole x rest ruled. law.again whole x rest (from x ruled);

@@ -64,9 +64,13 @@ front_law : Reads front_at front_bytes FormsFront
 unfolding front_at
 front_law =
     reads
-    (take_then _ any_text_law (λ id i. take_then _ (number_law w32 (2 ^ 32) wide32) (λ priority p. take_then _ flag_law (λ enabled _. take_then _ any_text_law (λ prefix b. take_then _ (tags_law allowed.Any) (λ tags t. take_then _ flag_law (λ markers _. take_then _ any_text_law (λ bucket n.
-    take_end (record { id = id; priority = priority; enabled = enabled; prefix = prefix; tags = tags; markers = markers; bucket = bucket }) (record { id = i; priority = p; prefix = b; tags = t; bucket = n })))))))))
-    (λ front is. again_then _ any_text_law front.id is.id (again_then _ (number_law w32 (2 ^ 32) wide32) front.priority is.priority (again_then _ flag_law front.enabled tt (again_then _ any_text_law front.prefix is.prefix (again_then _ (tags_law allowed.Any) front.tags is.tags
+    (take_then _ any_text_law (λ id i. take_then _ (number_law w32 (2 ^ 32) wide32)
+    (λ priority p. take_then _ flag_law (λ enabled _. take_then _ any_text_law
+    (λ prefix b. take_then _ (tags_law allowed.Any) (λ tags t. take_then _ flag_law (λ markers _. take_then _ any_text_law (λ bucket n.
+    take_end (record { id = id; priority = priority; enabled = enabled; prefix = prefix; tags = tags; markers = markers; bucket = bucket })
+    (record { id = i; priority = p; prefix = b; tags = t; bucket = n })))))))))
+    (λ front is. again_then _ any_text_law front.id is.id (again_then _ (number_law w32 (2 ^ 32) wide32) front.priority is.priority
+    (again_then _ flag_law front.enabled tt (again_then _ any_text_law front.prefix is.prefix (again_then _ (tags_law allowed.Any) front.tags is.tags
     (again_then _ flag_law front.markers tt (again_then _ any_text_law front.bucket is.bucket (again_end front))))))))
 
 back_law : Reads back_at back_bytes FormsBack
@@ -75,12 +79,24 @@ back_law =
     reads
     (take_then _ region_law (λ region r. take_then _ option_text_law (λ class c. take_then _ flag_law (λ modifications _.
     take_end (record { region = region; class = class; replica_modifications = modifications }) (record { region = r; class = c })))))
-    (λ back is. again_then _ region_law back.region is.region (again_then _ option_text_law back.class is.class (again_then _ flag_law back.replica_modifications tt (again_end back))))
+    (λ back is. again_then _ region_law back.region is.region (again_then _ option_text_law back.class is.class
+    (again_then _ flag_law back.replica_modifications tt (again_end back))))
 
 -- ---- the rule that is written so
 
 abbrev pub made : Front → Back → Rule
-made front back = record { id = front.id; priority = front.priority; enabled = front.enabled; prefix = front.prefix; tags = front.tags; markers = front.markers; bucket = front.bucket; class = back.class; replica_modifications = back.replica_modifications }
+made front back = record {
+  id = front.id;
+  priority = front.priority;
+  enabled = front.enabled;
+  prefix = front.prefix;
+  tags = front.tags;
+  markers =
+      front.markers;
+  bucket = front.bucket;
+  class = back.class;
+  replica_modifications = back.replica_modifications;
+}
 
 abbrev Same : {A : Type 0} → A → A → Type 0
 Same x y = y ≡ x
@@ -110,9 +126,12 @@ beside-same n rule (Some k) = tt
 rule-same : (n : ℕ) (earlier : List Rule) (front : Front) (back : Back) → IfOk (rule_from n earlier (draft_of front back)) (Same (made front back))
 unfolding rule_from
 rule-same n earlier front back =
-    ok-bind (Same front.id) (Same (made front back)) (id_from n (Some front.id)) _ (ok-if (Same front.id) (nat_le (length (chars front.id)) 255) front.id n kind.IdTooLong (λ _. refl))
-    (λ id i. ok-bind (Same front.priority) (Same (made front back)) (priority_from n (Some front.priority)) _ (ok-if (Same front.priority) (nat_le front.priority 2147483647) front.priority n kind.BadPriority (λ _. refl))
-    (λ priority p. ok-bind (Same front.prefix) (Same (made front back)) (prefix_from n front.prefix) _ (ok-if (Same front.prefix) (nat_le (length front.prefix) 1024) front.prefix n kind.PrefixTooLong (λ _. refl))
+    ok-bind (Same front.id) (Same (made front back)) (id_from n (Some front.id)) _
+    (ok-if (Same front.id) (nat_le (length (chars front.id)) 255) front.id n kind.IdTooLong (λ _. refl))
+    (λ id i. ok-bind (Same front.priority) (Same (made front back)) (priority_from n (Some front.priority)) _
+    (ok-if (Same front.priority) (nat_le front.priority 2147483647) front.priority n kind.BadPriority (λ _. refl))
+    (λ priority p. ok-bind (Same front.prefix) (Same (made front back)) (prefix_from n front.prefix) _
+    (ok-if (Same front.prefix) (nat_le (length front.prefix) 1024) front.prefix n kind.PrefixTooLong (λ _. refl))
     (λ prefix b. ok-bind (Same front.tags) (Same (made front back)) (tags_from n (passed is_tag_set front.tags)) _ (tags-same n front.tags)
     (λ tags t. ok-bind (Same front.bucket) (Same (made front back)) (bucket_from n (passed is_bucket_name front.bucket)) _ (bucket-same n front.bucket)
     (λ bucket u. ok-bind (Same back.class) (Same (made front back)) (class_from n back.class) _ (class-same n back.class)
@@ -136,52 +155,78 @@ regroup a b c d e f g h i j = simp append_assoc
 
 pub joined : (front : Front) (back : Back) → front_bytes front ++ back_bytes back ≡ rule_bytes (made front back, back.region)
 joined front back =
-    regroup (text front.id) (to_be_bytes w32 front.priority) (flag front.enabled) (text front.prefix) (tags_bytes front.tags) (flag front.markers) (text front.bucket) (back.region ∷ []) (option_text back.class) (flag back.replica_modifications)
+    regroup (text front.id) (to_be_bytes w32 front.priority) (flag front.enabled) (text front.prefix) (tags_bytes front.tags) (flag front.markers)
+    (text front.bucket) (back.region ∷ []) (option_text back.class) (flag back.replica_modifications)
 
-rule_takes : (rules : List Rule) (regions : List ℕ) (u : Unread) (x : (Rule × ℕ) × Unread) → IsBytes u.bytes → rule_at rules regions u ≡ Ok x → Takes u.bytes (rule_bytes x.0) x.1.bytes × Stands rules regions x.0
+rule_takes : (rules : List Rule) (regions : List ℕ) (u : Unread) (x : (Rule × ℕ) × Unread) → IsBytes u.bytes → rule_at rules regions u ≡ Ok x
+    → Takes u.bytes (rule_bytes x.0) x.1.bytes × Stands rules regions x.0
 unfolding rule_at
 rule_takes rules regions u x fits e =
-    let front = take_field front_law (λ front. back_at front.1 >>= λ back. or_at (place u) (rule_from 0 rules (draft_of front.0 back.0)) >>= λ rule. placed_beside (zip rules regions) (rule, back.0.region) (place front.1) >>= λ placed. Ok (placed, back.1)) u x fits e in
-    let back = take_field back_law (λ back. or_at (place u) (rule_from 0 rules (draft_of front.value back.0)) >>= λ rule. placed_beside (zip rules regions) (rule, back.0.region) (place front.rest) >>= λ placed. Ok (placed, back.1)) front.rest x front.takes.rest_fits front.gave in
-    let rule = bind_ok (or_at (place u) (rule_from 0 rules (draft_of front.value back.value))) (λ rule. placed_beside (zip rules regions) (rule, back.value.region) (place front.rest) >>= λ placed. Ok (placed, back.rest)) x back.gave in
+    let front = take_field front_law (λ front. back_at front.1 >>= λ back. or_at (place u) (rule_from 0 rules (draft_of front.0 back.0)) >>= λ rule.
+    placed_beside (zip rules regions) (rule, back.0.region) (place front.1) >>= λ placed. Ok (placed, back.1)) u x fits e in
+    let back = take_field back_law (λ back. or_at (place u) (rule_from 0 rules (draft_of front.value back.0)) >>= λ rule. placed_beside (zip rules regions)
+    (rule, back.0.region) (place front.rest) >>= λ placed. Ok (placed, back.1)) front.rest x front.takes.rest_fits front.gave in
+    let rule = bind_ok (or_at (place u) (rule_from 0 rules (draft_of front.value back.value)))
+    (λ rule. placed_beside (zip rules regions) (rule, back.value.region) (place front.rest) >>= λ placed. Ok (placed, back.rest)) x back.gave in
     let placed = bind_ok (placed_beside (zip rules regions) (rule.0, back.value.region) (place front.rest)) (λ placed. Ok (placed, back.rest)) x rule.2 in
-    let beside = guard_passed (list_all (λ other. have_one_region other (rule.0, back.value.region)) (zip rules regions)) (place front.rest) (rule.0, back.value.region) placed.0 placed.1 in
+    let beside = guard_passed (list_all (λ other. have_one_region other (rule.0, back.value.region)) (zip rules regions)) (place front.rest)
+    (rule.0, back.value.region) placed.0 placed.1 in
     let from = or_at-ok (place u) (rule_from 0 rules (draft_of front.value back.value)) rule.0 rule.1 in
-    let same : rule.0 ≡ made front.value back.value = at_ok (Same (made front.value back.value)) (rule_from 0 rules (draft_of front.value back.value)) rule.0 from (rule-same 0 rules front.value back.value) in
-    let ruled : Fits rules rule.0 = at_ok (Fits rules) (rule_from 0 rules (draft_of front.value back.value)) rule.0 from (rule-is 0 rules (draft_of front.value back.value)) in
+    let same : rule.0 ≡ made front.value back.value = at_ok (Same (made front.value back.value))
+    (rule_from 0 rules (draft_of front.value back.value)) rule.0 from (rule-same 0 rules front.value back.value) in
+    let ruled : Fits rules rule.0 = at_ok (Fits rules) (rule_from 0 rules (draft_of front.value back.value)) rule.0 from
+    (rule-is 0 rules (draft_of front.value back.value)) in
     let both = Takes-then u.bytes (front_bytes front.value) front.rest.bytes (back_bytes back.value) back.rest.bytes front.takes back.takes in
-    let spelled : Takes u.bytes (rule_bytes (made front.value back.value, back.value.region)) back.rest.bytes = subst (λ (bytes : List ℕ). Takes u.bytes bytes back.rest.bytes) (joined front.value back.value) both in
-    let texts : has_texts (made front.value back.value) ≡ true = and_from (is_utf8 front.value.id) (is_utf8 front.value.prefix) front.fits.id.0 front.fits.prefix.0 in
+    let spelled : Takes u.bytes (rule_bytes (made front.value back.value, back.value.region)) back.rest.bytes =
+    subst (λ (bytes : List ℕ). Takes u.bytes bytes back.rest.bytes) (joined front.value back.value) both in
+    let texts : has_texts (made front.value back.value) ≡ true = and_from (is_utf8 front.value.id)
+    (is_utf8 front.value.prefix) front.fits.id.0 front.fits.prefix.0 in
     let all : Takes u.bytes (rule_bytes (rule.0, back.value.region)) back.rest.bytes × Stands rules regions (rule.0, back.value.region) = (
       subst (λ (r : Rule). Takes u.bytes (rule_bytes (r, back.value.region)) back.rest.bytes) (sym same) spelled,
       record { ruled = ruled; texts = subst (λ (r : Rule). has_texts r ≡ true) (sym same) texts; low = back.fits.region; beside = beside.0 },
     ) in
-    subst (λ (y : (Rule × ℕ) × Unread). Takes u.bytes (rule_bytes y.0) y.1.bytes × Stands rules regions y.0) (ap (λ (p : Rule × ℕ). (p, back.rest)) beside.1 ∙ ok_is (placed.0, back.rest) x placed.2) all
+    subst (λ (y : (Rule × ℕ) × Unread). Takes u.bytes (rule_bytes y.0) y.1.bytes
+    × Stands rules regions y.0) (ap (λ (p : Rule × ℕ). (p, back.rest)) beside.1 ∙ ok_is (placed.0, back.rest) x placed.2) all
 
 -- a rule that was read has its place, whatever the bytes are
 pub rule_fits : (rules : List Rule) (regions : List ℕ) (u : Unread) (x : (Rule × ℕ) × Unread) → rule_at rules regions u ≡ Ok x → Fits rules x.0.0
 unfolding rule_at
 rule_fits rules regions u x e =
-    let front = bind_ok (front_at u) (λ front. back_at front.1 >>= λ back. or_at (place u) (rule_from 0 rules (draft_of front.0 back.0)) >>= λ rule. placed_beside (zip rules regions) (rule, back.0.region) (place front.1) >>= λ placed. Ok (placed, back.1)) x e in
-    let back = bind_ok (back_at front.0.1) (λ back. or_at (place u) (rule_from 0 rules (draft_of front.0.0 back.0)) >>= λ rule. placed_beside (zip rules regions) (rule, back.0.region) (place front.0.1) >>= λ placed. Ok (placed, back.1)) x front.2 in
+    let front = bind_ok (front_at u) (λ front. back_at front.1 >>= λ back. or_at (place u) (rule_from 0 rules (draft_of front.0 back.0)) >>= λ rule.
+    placed_beside (zip rules regions) (rule, back.0.region) (place front.1) >>= λ placed. Ok (placed, back.1)) x e in
+    let back = bind_ok (back_at front.0.1) (λ back. or_at (place u) (rule_from 0 rules (draft_of front.0.0 back.0)) >>= λ rule. placed_beside
+    (zip rules regions) (rule, back.0.region) (place front.0.1) >>= λ placed. Ok (placed, back.1)) x front.2 in
     let draft = draft_of front.0.0 back.0.0 in
-    let rule = bind_ok (or_at (place u) (rule_from 0 rules draft)) (λ rule. placed_beside (zip rules regions) (rule, back.0.0.region) (place front.0.1) >>= λ placed. Ok (placed, back.0.1)) x back.2 in
+    let rule = bind_ok (or_at (place u) (rule_from 0 rules draft)) (λ rule. placed_beside (zip rules regions) (rule, back.0.0.region)
+    (place front.0.1) >>= λ placed. Ok (placed, back.0.1)) x back.2 in
     let placed = bind_ok (placed_beside (zip rules regions) (rule.0, back.0.0.region) (place front.0.1)) (λ placed. Ok (placed, back.0.1)) x rule.2 in
-    let beside = guard_passed (list_all (λ other. have_one_region other (rule.0, back.0.0.region)) (zip rules regions)) (place front.0.1) (rule.0, back.0.0.region) placed.0 placed.1 in
-    let ruled : Fits rules rule.0 = at_ok (Fits rules) (rule_from 0 rules draft) rule.0 (or_at-ok (place u) (rule_from 0 rules draft) rule.0 rule.1) (rule-is 0 rules draft) in
+    let beside = guard_passed (list_all (λ other. have_one_region other (rule.0, back.0.0.region)) (zip rules regions)) (place front.0.1)
+    (rule.0, back.0.0.region) placed.0 placed.1 in
+    let ruled : Fits rules rule.0 = at_ok (Fits rules) (rule_from 0 rules draft) rule.0 (or_at-ok (place u) (rule_from 0 rules draft) rule.0 rule.1)
+    (rule-is 0 rules draft) in
     subst (λ (y : (Rule × ℕ) × Unread). Fits rules y.0.0) (ap (λ (p : Rule × ℕ). (p, back.0.1)) beside.1 ∙ ok_is (placed.0, back.0.1) x placed.2) ruled
 
 -- ---- a rule that stands there is read again
 
 abbrev pub front_for : Rule → Front
-front_for rule = record { id = rule.id; priority = rule.priority; enabled = rule.enabled; prefix = rule.prefix; tags = rule.tags; markers = rule.markers; bucket = rule.bucket }
+front_for rule = record {
+  id = rule.id;
+  priority = rule.priority;
+  enabled = rule.enabled;
+  prefix = rule.prefix;
+  tags = rule.tags;
+  markers =
+      rule.markers;
+  bucket = rule.bucket;
+}
 
 abbrev pub back_for : Rule × ℕ → Back
 back_for placed = record { region = placed.1; class = placed.0.class; replica_modifications = placed.0.replica_modifications }
 
 pub id_text : (id : List ℕ) → nat_le (length (chars id)) 255 ≡ true → is_utf8 id ≡ true → length id ≤ 1020
 id_text id short utf8 =
-    let some : (is_utf8 id && nat_le 0 (length (chars id))) ≡ true = and_from (is_utf8 id) (nat_le 0 (length (chars id))) utf8 (le-leb 0 (length (chars id)) (omega arith)) in
+    let some : (is_utf8 id && nat_le 0 (length (chars id))) ≡ true = and_from (is_utf8 id) (nat_le 0 (length (chars id))) utf8
+    (le-leb 0 (length (chars id)) (omega arith)) in
     text-length id 0 255 (and_from (is_utf8 id && nat_le 0 (length (chars id))) (nat_le (length (chars id)) 255) some short)
 
 class_text : (class : Option (List ℕ)) → is_class class ≡ true → IsOptionText class
@@ -199,7 +244,8 @@ front_forms rule f texts =
       bucket = (is_utf8-from_IsUtf8 rule.bucket (name-utf8 rule.bucket f.named), omega (arith, (name_is rule.bucket f.named).short));
     }
 
-from_again : (n : ℕ) (earlier : List Rule) (placed : Rule × ℕ) → Facts placed.0 → list_any (has_id placed.0) earlier ≡ false → list_any (has_priority placed.0) earlier ≡ false
+from_again : (n : ℕ) (earlier : List Rule) (placed : Rule × ℕ) → Facts placed.0 → list_any (has_id placed.0) earlier ≡ false
+    → list_any (has_priority placed.0) earlier ≡ false
     → rule_from n earlier (draft_of (front_for placed.0) (back_for placed)) ≡ Ok placed.0
 unfolding rule_from
 from_again n earlier placed f id priority =
@@ -212,13 +258,16 @@ rule_again rules regions whole placed rest stands =
     let f = facts placed.0 stands.ruled.0 in
     let front = front_for placed.0 in
     let back = back_for placed in
-    let bytes : rule_bytes placed ++ rest ≡ front_bytes front ++ (back_bytes back ++ rest) = ap (λ (bytes : List ℕ). bytes ++ rest) (sym (joined front back)) ∙ append_assoc (front_bytes front) (back_bytes back) rest in
+    let bytes : rule_bytes placed ++ rest ≡ front_bytes front ++ (back_bytes back ++ rest) =
+    ap (λ (bytes : List ℕ). bytes ++ rest) (sym (joined front back)) ∙ append_assoc (front_bytes front) (back_bytes back) rest in
     let start = left whole (front_bytes front ++ (back_bytes back ++ rest)) in
     let region = left whole (back_bytes back ++ rest) in
     ap (λ (bytes : List ℕ). rule_at rules regions (left whole bytes)) bytes
-    ∙ read_again front_law (λ front. back_at front.1 >>= λ back. or_at (place start) (rule_from 0 rules (draft_of front.0 back.0)) >>= λ rule. placed_beside (zip rules regions) (rule, back.0.region) (place front.1) >>= λ placed. Ok (placed, back.1))
+    ∙ read_again front_law (λ front. back_at front.1 >>= λ back. or_at (place start) (rule_from 0 rules (draft_of front.0 back.0)) >>= λ rule. placed_beside
+    (zip rules regions) (rule, back.0.region) (place front.1) >>= λ placed. Ok (placed, back.1))
     whole front (back_bytes back ++ rest) (front_forms placed.0 f stands.texts)
-    ∙ read_again back_law (λ back. or_at (place start) (rule_from 0 rules (draft_of front back.0)) >>= λ rule. placed_beside (zip rules regions) (rule, back.0.region) (place region) >>= λ placed. Ok (placed, back.1))
+    ∙ read_again back_law (λ back. or_at (place start) (rule_from 0 rules (draft_of front back.0)) >>= λ rule. placed_beside (zip rules regions)
+    (rule, back.0.region) (place region) >>= λ placed. Ok (placed, back.1))
     whole back rest (record { region = stands.low; class = class_text placed.0.class f.classed })
     ∙ rw (from_again 0 rules placed f stands.ruled.1 stands.ruled.2, stands.beside) refl
 

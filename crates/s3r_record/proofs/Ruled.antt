@@ -9,8 +9,17 @@ use Rattle.s3r_record.specs.Placing.{IsPlaced, has_texts}
 use Rattle.s3r_record.specs.Spelling.{spelling, IsCommand}
 
 abbrev pub Ruled : Command → Type 0
-Ruled (command.SetReplication name config regions) = IsTrue (is_bucket_name name) × IsTrue (is_config config) × IsPlaced config regions × IsTrue (list_all has_texts config)
-Ruled c = IsCommand c
+Ruled (command.SetReplication name config regions) = IsTrue (is_bucket_name name) × IsTrue (is_config config) × IsPlaced config regions
+    × IsTrue (list_all has_texts config)
+Ruled (command.CreateBucket name locked) = IsCommand (command.CreateBucket name locked)
+Ruled (command.DeleteBucket name) = IsCommand (command.DeleteBucket name)
+Ruled (command.SetVersioning name enabled) = IsCommand (command.SetVersioning name enabled)
+Ruled (command.DropReplication name) = IsCommand (command.DropReplication name)
+Ruled (command.Put bucket key tags hold class bytes) = IsCommand (command.Put bucket key tags hold class bytes)
+Ruled (command.Marker bucket key) = IsCommand (command.Marker bucket key)
+Ruled (command.Remove bucket key id) = IsCommand (command.Remove bucket key id)
+Ruled (command.SetTags bucket key id tags) = IsCommand (command.SetTags bucket key id tags)
+Ruled (command.SetHold bucket key id hold) = IsCommand (command.SetHold bucket key id hold)
 
 pub ruled_is : (c : Command) → Ruled c → length (spelling c) ≤ 16777216 → IsCommand c
 ruled_is (command.SetReplication name config regions) ruled short = (ruled.0, ruled.1, ruled.2, short, ruled.3)

@@ -11,8 +11,10 @@ pub record TakesBehind {A : Type 0} (spell : A → List ℕ) (Fits : A → Type 
   pub takes : (u : Unread) (x : A × Unread) → IsBytes u.bytes → read u ≡ Ok x → Takes (before ++ u.bytes) (spell x.0) x.1.bytes × Fits x.0
 
 -- a field, and what is read behind it
-pub take_then : {A B : Type 0} {read : Unread → Result (A × Unread) ℕ} {text : A → List ℕ} {Named : A → Type 0} {spell : B → List ℕ} {Fits : B → Type 0} {before : List ℕ} (next : A × Unread → Result (B × Unread) ℕ)
-    → Reads read text Named → ((value : A) → Named value → TakesBehind spell Fits (before ++ text value) (λ u. next (value, u))) → TakesBehind spell Fits before (λ u. read u >>= next)
+pub take_then : {A B : Type 0} {read : Unread → Result (A × Unread) ℕ} {text : A → List ℕ} {Named : A → Type 0} {spell : B → List ℕ} {Fits : B
+    → Type 0} {before : List ℕ} (next : A × Unread → Result (B × Unread) ℕ)
+    → Reads read text Named → ((value : A) → Named value → TakesBehind spell Fits (before ++ text value) (λ u. next (value, u)))
+    → TakesBehind spell Fits before (λ u. read u >>= next)
 take_then {text = text} {before = before} next law behind = record {
   takes = λ u x fits e.
       let field = take_field law next u x fits e in
@@ -24,12 +26,14 @@ take_then {text = text} {before = before} next law behind = record {
 -- no field is left
 pub take_end : {B : Type 0} {spell : B → List ℕ} {Fits : B → Type 0} (x : B) → Fits x → TakesBehind spell Fits (spell x) (λ u. Ok (x, u))
 take_end {B = B} {spell = spell} {Fits = Fits} x named = record {
-  takes = λ u y fits e. subst (λ (z : B × Unread). Takes (spell x ++ u.bytes) (spell z.0) z.1.bytes × Fits z.0) (ok_is (x, u) y e) (record { parts = refl; rest_fits = fits }, named);
+  takes = λ u y fits e. subst (λ (z : B × Unread). Takes (spell x ++ u.bytes) (spell z.0) z.1.bytes
+      × Fits z.0) (ok_is (x, u) y e) (record { parts = refl; rest_fits = fits }, named);
 }
 
 -- the reader that a byte before it chooses, among several
 pub take_chosen : {B : Type 0} {spell : B → List ℕ} {Fits : B → Type 0} {read others : Unread → Result (B × Unread) ℕ} (k kind : ℕ)
-    → TakesBehind spell Fits (k ∷ []) read → TakesBehind spell Fits (kind ∷ []) others → TakesBehind spell Fits (kind ∷ []) (λ u. cond (eqb kind k) (read u) (others u))
+    → TakesBehind spell Fits (k ∷ []) read → TakesBehind spell Fits (kind ∷ []) others
+    → TakesBehind spell Fits (kind ∷ []) (λ u. cond (eqb kind k) (read u) (others u))
 take_chosen {spell = spell} {Fits = Fits} {read = read} {others = others} k kind named more = record {
   takes = λ u x fits e.
       elim (chosen (eqb kind k) (read u) (others u) x e) [
@@ -48,8 +52,10 @@ pub record ReadBehind {A : Type 0} (spell : A → List ℕ) (before : List ℕ) 
   pub parts : before ++ after ≡ spell x
   pub again : (whole : ℕ) (rest : List ℕ) → read (left whole (after ++ rest)) ≡ Ok (x, left whole rest)
 
-pub again_then : {A B : Type 0} {read : Unread → Result (A × Unread) ℕ} {text : A → List ℕ} {Named : A → Type 0} {spell : B → List ℕ} {before : List ℕ} {x : B} (next : A × Unread → Result (B × Unread) ℕ)
-    → Reads read text Named → (value : A) → Named value → ReadBehind spell (before ++ text value) x (λ u. next (value, u)) → ReadBehind spell before x (λ u. read u >>= next)
+pub again_then : {A B : Type 0} {read : Unread → Result (A × Unread) ℕ} {text : A → List ℕ} {Named : A → Type 0} {spell : B
+    → List ℕ} {before : List ℕ} {x : B} (next : A × Unread → Result (B × Unread) ℕ)
+    → Reads read text Named → (value : A) → Named value → ReadBehind spell (before ++ text value) x (λ u. next (value, u))
+    → ReadBehind spell before x (λ u. read u >>= next)
 again_then {read = read} {text = text} {before = before} next law value named behind = record {
   after = text value ++ behind.after;
   parts = sym (append_assoc before (text value) behind.after) ∙ behind.parts;

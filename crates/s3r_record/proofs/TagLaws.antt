@@ -32,8 +32,10 @@ tag_law : (rule : TagRule) (before : Option Tag) → Reads (tag_at rule before) 
 unfolding tag_at
 tag_law rule before =
     reads
-    (take_then _ (text_law (key_follows rule before)) (λ key k. take_then _ (text_law (may_be_value rule)) (λ value v. take_end (record { key = key; value = value }) ((k.0, v.0), (k.1, v.1)))))
-    (λ tag is. again_then _ (text_law (key_follows rule before)) tag.key (is.0.0, is.1.0) (again_then _ (text_law (may_be_value rule)) tag.value (is.0.1, is.1.1) (again_end tag)))
+    (take_then _ (text_law (key_follows rule before)) (λ key k. take_then _ (text_law (may_be_value rule))
+    (λ value v. take_end (record { key = key; value = value }) ((k.0, v.0), (k.1, v.1)))))
+    (λ tag is. again_then _ (text_law (key_follows rule before)) tag.key (is.0.0, is.1.0)
+    (again_then _ (text_law (may_be_value rule)) tag.value (is.0.1, is.1.1) (again_end tag)))
 
 -- ---- several
 
@@ -48,12 +50,14 @@ ShortAll (tag ∷ tags) = Short tag × ShortAll tags
 tag_follows : (rule : TagRule) (before : Option Tag) (u : Unread) (x : Tag × Unread) → tag_at rule before u ≡ Ok x → Follows rule before x.0
 unfolding tag_at
 tag_follows rule before u x e =
-    let key = bind_ok (tested_at w16 (key_follows rule before) u) (λ key. tested_at w16 (may_be_value rule) key.1 >>= λ value. Ok (record { key = key.0; value = value.0 }, value.1)) x e in
+    let key = bind_ok (tested_at w16 (key_follows rule before) u) (λ key. tested_at w16 (may_be_value rule) key.1 >>= λ value. Ok
+    (record { key = key.0; value = value.0 }, value.1)) x e in
     let value = bind_ok (tested_at w16 (may_be_value rule) key.0.1) (λ value. Ok (record { key = key.0.0; value = value.0 }, value.1)) x key.2 in
     subst (λ (y : Tag × Unread). Follows rule before y.0) (ok_is (record { key = key.0.0; value = value.0.0 }, value.0.1) x value.2)
     (tested_passes w16 (key_follows rule before) u key.0 key.1, tested_passes w16 (may_be_value rule) key.0.1 value.0 value.1)
 
-tags_follow : (rule : TagRule) (count : ℕ) (before : Option Tag) (u : Unread) (x : List Tag × Unread) → tags_after rule count before u ≡ Ok x → (length x.0 ≡ count) × FollowAll rule before x.0
+tags_follow : (rule : TagRule) (count : ℕ) (before : Option Tag) (u : Unread) (x : List Tag × Unread) → tags_after rule count before u ≡ Ok x
+    → (length x.0 ≡ count) × FollowAll rule before x.0
 unfolding tags_after
 tags_follow rule zero before u x e = subst (λ (y : List Tag × Unread). (length y.0 ≡ 0) × FollowAll rule before y.0) (ok_is ([], u) x e) (refl, tt)
 tags_follow rule (suc count) before u x e =
@@ -67,23 +71,27 @@ tags_take : (rule : TagRule) (count : ℕ) (before : Option Tag) (u : Unread) (x
     → Takes u.bytes (flat_map tag_bytes x.0) x.1.bytes × ShortAll x.0
 unfolding tags_after
 tags_take rule zero before u x fits e =
-    subst (λ (y : List Tag × Unread). Takes u.bytes (flat_map tag_bytes y.0) y.1.bytes × ShortAll y.0) (ok_is ([], u) x e) (record { parts = refl; rest_fits = fits }, tt)
+    subst (λ (y : List Tag × Unread). Takes u.bytes (flat_map tag_bytes y.0) y.1.bytes
+    × ShortAll y.0) (ok_is ([], u) x e) (record { parts = refl; rest_fits = fits }, tt)
 tags_take rule (suc count) before u x fits e =
     let first = take_field (tag_law rule before) (λ tag. tags_after rule count (Some tag.0) tag.1 >>= λ others. Ok (tag.0 ∷ others.0, others.1)) u x fits e in
     let others = bind_ok (tags_after rule count (Some first.value) first.rest) (λ others. Ok (first.value ∷ others.0, others.1)) x first.gave in
     let taken = tags_take rule count (Some first.value) first.rest others.0 first.takes.rest_fits others.1 in
     let both = Takes-then u.bytes (tag_bytes first.value) first.rest.bytes (flat_map tag_bytes others.0.0) others.0.1.bytes first.takes taken.0 in
     let joined : Takes u.bytes (flat_map tag_bytes (first.value ∷ others.0.0)) others.0.1.bytes = rw flat_map-cons both in
-    subst (λ (y : List Tag × Unread). Takes u.bytes (flat_map tag_bytes y.0) y.1.bytes × ShortAll y.0) (ok_is (first.value ∷ others.0.0, others.0.1) x others.2) (joined, (first.fits.1, taken.1))
+    subst (λ (y : List Tag × Unread). Takes u.bytes (flat_map tag_bytes y.0) y.1.bytes
+    × ShortAll y.0) (ok_is (first.value ∷ others.0.0, others.0.1) x others.2) (joined, (first.fits.1, taken.1))
 
 tags_again : (rule : TagRule) (before : Option Tag) (whole : ℕ) (tags : List Tag) (rest : List ℕ) → FollowAll rule before tags → ShortAll tags
     → tags_after rule (length tags) before (left whole (flat_map tag_bytes tags ++ rest)) ≡ Ok (tags, left whole rest)
 unfolding tags_after
 tags_again rule before whole [] rest follow short = refl
 tags_again rule before whole (tag ∷ tags) rest follow short =
-    let regrouped : flat_map tag_bytes (tag ∷ tags) ++ rest ≡ tag_bytes tag ++ (flat_map tag_bytes tags ++ rest) = ap (λ (bytes : List ℕ). bytes ++ rest) (flat_map-cons tag_bytes tag tags) ∙ append_assoc (tag_bytes tag) (flat_map tag_bytes tags) rest in
+    let regrouped : flat_map tag_bytes (tag ∷ tags) ++ rest ≡ tag_bytes tag ++ (flat_map tag_bytes tags ++ rest) =
+    ap (λ (bytes : List ℕ). bytes ++ rest) (flat_map-cons tag_bytes tag tags) ∙ append_assoc (tag_bytes tag) (flat_map tag_bytes tags) rest in
     ap (λ (bytes : List ℕ). tags_after rule (suc (length tags)) before (left whole bytes)) regrouped
-    ∙ read_again (tag_law rule before) (λ tag. tags_after rule (length tags) (Some tag.0) tag.1 >>= λ others. Ok (tag.0 ∷ others.0, others.1)) whole tag (flat_map tag_bytes tags ++ rest) (follow.0, short.0)
+    ∙ read_again (tag_law rule before) (λ tag. tags_after rule (length tags) (Some tag.0) tag.1 >>= λ others. Ok (tag.0 ∷ others.0, others.1)) whole tag
+    (flat_map tag_bytes tags ++ rest) (follow.0, short.0)
     ∙ ap (λ read. read >>= λ others. Ok (tag ∷ others.0, others.1)) (tags_again rule (Some tag) whole tags rest follow.1 short.1)
 
 -- ---- a count, and so many
@@ -93,16 +101,20 @@ pub record Stand (rule : TagRule) (tags : List Tag) : Type 0 where
   pub follow : FollowAll rule None tags
   pub short : ShortAll tags
 
-tags_takes : (rule : TagRule) (u : Unread) (x : List Tag × Unread) → IsBytes u.bytes → tags_at rule u ≡ Ok x → Takes u.bytes (tags_bytes x.0) x.1.bytes × Stand rule x.0
+tags_takes : (rule : TagRule) (u : Unread) (x : List Tag × Unread) → IsBytes u.bytes → tags_at rule u ≡ Ok x → Takes u.bytes (tags_bytes x.0) x.1.bytes
+    × Stand rule x.0
 unfolding tags_at
 tags_takes rule u x fits e =
     let count = take_field (byte_law (most_tags rule)) (λ count. tags_after rule count.0 None count.1) u x fits e in
     let taken = tags_take rule count.value None count.rest x count.takes.rest_fits count.gave in
     let follow = tags_follow rule count.value None count.rest x count.gave in
-    let both = Takes-then u.bytes (count.value ∷ []) count.rest.bytes (flat_map tag_bytes x.0) x.1.bytes count.takes taken.0 in
-    (subst (λ (n : ℕ). Takes u.bytes (n ∷ flat_map tag_bytes x.0) x.1.bytes) (sym follow.0) both, record { few = subst (λ (n : ℕ). n ≤ most_tags rule) (sym follow.0) count.fits; follow = follow.1; short = taken.1 })
+    let both = Takes-then u.bytes (count.value ∷ []) count.rest.bytes (flat_map tag_bytes x.0) x.1.bytes count.takes taken.0 in (
+      subst (λ (n : ℕ). Takes u.bytes (n ∷ flat_map tag_bytes x.0) x.1.bytes) (sym follow.0) both,
+      record { few = subst (λ (n : ℕ). n ≤ most_tags rule) (sym follow.0) count.fits; follow = follow.1; short = taken.1 },
+    )
 
-tags_read_again : (rule : TagRule) (whole : ℕ) (tags : List Tag) (rest : List ℕ) → Stand rule tags → tags_at rule (left whole (tags_bytes tags ++ rest)) ≡ Ok (tags, left whole rest)
+tags_read_again : (rule : TagRule) (whole : ℕ) (tags : List Tag) (rest : List ℕ) → Stand rule tags
+    → tags_at rule (left whole (tags_bytes tags ++ rest)) ≡ Ok (tags, left whole rest)
 unfolding tags_at
 tags_read_again rule whole tags rest stand =
     read_again (byte_law (most_tags rule)) (λ count. tags_after rule count.0 None count.1) whole (length tags) (flat_map tag_bytes tags ++ rest) stand.few
@@ -116,7 +128,8 @@ tags_law rule = record { takes = tags_takes rule; again = tags_read_again rule }
 abbrev rises : Tag × Tag → Bool
 rises pair = is_key_below pair.0.key pair.1.key
 
-rising_after : (before : Tag) (tags : List Tag) → FollowAll allowed.Lawful (Some before) tags → (list_all is_tag tags ≡ true) × (list_all rises (zip (before ∷ tags) tags) ≡ true)
+rising_after : (before : Tag) (tags : List Tag) → FollowAll allowed.Lawful (Some before) tags → (list_all is_tag tags ≡ true)
+    × (list_all rises (zip (before ∷ tags) tags) ≡ true)
 rising_after before [] follow = (refl, refl)
 rising_after before (tag ∷ tags) follow =
     let key = and_parts (is_key_below before.key tag.key) (is_tag_key tag.key) follow.0.0 in
@@ -125,7 +138,8 @@ rising_after before (tag ∷ tags) follow =
       and_from (is_key_below before.key tag.key) (list_all rises (zip (tag ∷ tags) tags)) key.0 others.1,
     )
 
-follow_after : (before : Tag) (tags : List Tag) → list_all is_tag tags ≡ true → list_all rises (zip (before ∷ tags) tags) ≡ true → FollowAll allowed.Lawful (Some before) tags
+follow_after : (before : Tag) (tags : List Tag) → list_all is_tag tags ≡ true → list_all rises (zip (before ∷ tags) tags) ≡ true
+    → FollowAll allowed.Lawful (Some before) tags
 follow_after before [] ruled rising = tt
 follow_after before (tag ∷ tags) ruled rising =
     let r = and_parts (is_tag tag) (list_all is_tag tags) ruled in
@@ -137,8 +151,10 @@ set_from_all : (tags : List Tag) → length tags ≤ 10 → FollowAll allowed.La
 set_from_all [] few follow = refl
 set_from_all (tag ∷ tags) few follow =
     let others = rising_after tag tags follow.1 in
-    let ruled : list_all is_tag (tag ∷ tags) ≡ true = and_from (is_tag tag) (list_all is_tag tags) (and_from (is_tag_key tag.key) (is_tag_value tag.value) follow.0.0 follow.0.1) others.0 in
-    and_from (nat_le (length (tag ∷ tags)) 10 && list_all is_tag (tag ∷ tags)) (has_rising_keys (tag ∷ tags)) (and_from (nat_le (length (tag ∷ tags)) 10) (list_all is_tag (tag ∷ tags)) (le-leb (length (tag ∷ tags)) 10 few) ruled) others.1
+    let ruled : list_all is_tag (tag ∷ tags) ≡ true = and_from (is_tag tag) (list_all is_tag tags)
+    (and_from (is_tag_key tag.key) (is_tag_value tag.value) follow.0.0 follow.0.1) others.0 in
+    and_from (nat_le (length (tag ∷ tags)) 10 && list_all is_tag (tag ∷ tags)) (has_rising_keys (tag ∷ tags))
+    (and_from (nat_le (length (tag ∷ tags)) 10) (list_all is_tag (tag ∷ tags)) (le-leb (length (tag ∷ tags)) 10 few) ruled) others.1
 
 -- what a writer of a set uses of its rule
 pub record IsSet (tags : List Tag) : Type 0 where
@@ -183,11 +199,18 @@ set_law =
 follow_any : (before : Option Tag) (tags : List Tag) → FollowAll allowed.Lawful before tags → FollowAll allowed.Any before tags
 follow_any before [] follow = tt
 follow_any before (tag ∷ tags) follow =
-    let key = and_parts (rises_above before tag.key) (is_tag_key tag.key) follow.0.0 in
-    ((and_from (rises_above before tag.key) (is_utf8 tag.key) key.0 (text-utf8 tag.key 1 128 key.1), text-utf8 tag.value 0 256 follow.0.1), follow_any (Some tag) tags follow.1)
+    let key = and_parts (rises_above before tag.key) (is_tag_key tag.key) follow.0.0 in (
+      (and_from (rises_above before tag.key) (is_utf8 tag.key) key.0 (text-utf8 tag.key 1 128 key.1), text-utf8 tag.value 0 256 follow.0.1),
+      follow_any (Some tag) tags follow.1,
+    )
 
 pub set_stands : (tags : List Tag) → is_tag_set tags ≡ true → Stand allowed.Any tags
-set_stands tags ruled = let set = set_is tags ruled in record { few = omega (arith, set.few); follow = follow_any None tags set.follow; short = short_all tags set.ruled }
+set_stands tags ruled = let set = set_is tags ruled in record {
+  few = omega (arith, set.few);
+  follow = follow_any None tags set.follow;
+  short =
+      short_all tags set.ruled;
+}
 
 -- the lawful tags behind a count are a set
 pub set_read : (u : Unread) (x : List Tag × Unread) → tags_at allowed.Lawful u ≡ Ok x → is_tag_set x.0 ≡ true

@@ -17,7 +17,8 @@ last_of-push : (tags : List Tag) (tag : Tag) → last_of (tags ++ tag ∷ []) �
 last_of-push tags tag =
     let place : length (tags ++ tag ∷ []) - 1 ≡ length tags = omega (arith, length-append tags (tag ∷ [])) in
     let inside : length tags < length (tags ++ tag ∷ []) = omega (arith, length-append tags (tag ∷ [])) in
-    ap (slice_get (tags ++ tag ∷ [])) place ∙ slice_get-get_or (tags ++ tag ∷ []) (length tags) tag inside ∙ ap (λ (t : Tag). Some t) (get_or_push tags tag tag (length tags) refl)
+    ap (slice_get (tags ++ tag ∷ [])) place ∙ slice_get-get_or (tags ++ tag ∷ []) (length tags) tag inside
+    ∙ ap (λ (t : Tag). Some t) (get_or_push tags tag tag (length tags) refl)
 
 -- what was read before, and what is still read
 abbrev pub with_front : List Tag → Result (List Tag × Unread) ℕ → Result (List Tag × Unread) ℕ
@@ -27,11 +28,13 @@ with_front front read = read >>= λ x. Ok (front ++ x.0, x.1)
 abbrev pub go_on : TagRule → List Tag → ℕ → ℕ → Unread → Result (List Tag × Unread) ℕ
 go_on rule tags count done left = with_front tags (tags_after rule (count - done) (last_of tags) left)
 
-regroup : (front : List Tag) (tag : Tag) (read : Result (List Tag × Unread) ℕ) → with_front front (read >>= λ x. Ok (tag ∷ x.0, x.1)) ≡ with_front (front ++ tag ∷ []) read
+regroup : (front : List Tag) (tag : Tag) (read : Result (List Tag × Unread) ℕ)
+    → with_front front (read >>= λ x. Ok (tag ∷ x.0, x.1)) ≡ with_front (front ++ tag ∷ []) read
 regroup front tag (Ok x) = ap (λ (tags : List Tag). Ok (tags, x.1)) (simp append_assoc)
 regroup front tag (Err place) = refl
 
-pub goes_on : (rule : TagRule) (tags : List Tag) (count done : ℕ) (left : Unread) (tag : Tag) (after : Unread) (total : Result (List Tag × Unread) ℕ) → done < count
+pub goes_on : (rule : TagRule) (tags : List Tag) (count done : ℕ) (left : Unread) (tag : Tag) (after : Unread) (total : Result (List Tag × Unread) ℕ)
+    → done < count
     → tag_at rule (last_of tags) left ≡ Ok (tag, after) → go_on rule tags count done left ≡ total → go_on rule (tags ++ tag ∷ []) count (done + 1) after ≡ total
 unfolding tags_after
 goes_on rule tags count done left tag after total lt read so_far =
@@ -49,7 +52,8 @@ ends (faults.NotACommand place) rule tags count done left total lt fails so_far 
     let one : go_on rule tags count done left ≡ Err place = rw (more, fails) refl in
     sym so_far ∙ one
 
-pub is_done : (rule : TagRule) (tags : List Tag) (count done : ℕ) (left : Unread) (total : Result (List Tag × Unread) ℕ) → count ≤ done → go_on rule tags count done left ≡ total → total ≡ Ok (tags, left)
+pub is_done : (rule : TagRule) (tags : List Tag) (count done : ℕ) (left : Unread) (total : Result (List Tag × Unread) ℕ) → count ≤ done
+    → go_on rule tags count done left ≡ total → total ≡ Ok (tags, left)
 unfolding tags_after
 is_done rule tags count done left total le so_far =
     let none : count - done ≡ 0 = omega arith in

@@ -1,6 +1,7 @@
 pub mod Fields
 pub mod Placing
 pub mod Spelling
+pub mod Laws
 pub mod Reading
 pub mod ReadingTexts
 pub mod ReadingTags

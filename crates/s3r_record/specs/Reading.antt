@@ -37,7 +37,8 @@ Gives view (Err fault) read = Fails fault read
 
 -- A field is a value and what is left behind it.
 abbrev pub number_at : Width → Unread → Result (ℕ × Unread) ℕ
-number_at w left = if nat_lt (length left.bytes) (byte_len w) then Err (place left) else Ok (from_be_bytes w (take (byte_len w) left.bytes), past (byte_len w) left)
+number_at w left = if nat_lt (length left.bytes) (byte_len w) then Err (place left) else Ok
+    (from_be_bytes w (take (byte_len w) left.bytes), past (byte_len w) left)
 
 -- the first byte, if it is at most that
 abbrev pub byte_of : ℕ → List ℕ → ℕ → Result (ℕ × List ℕ) ℕ

@@ -38,7 +38,8 @@ IsCommand (command.SetReplication name config regions) = IsTrue (is_bucket_name 
     × (length (spelling (command.SetReplication name config regions)) ≤ 16777216)
     × IsTrue (list_all has_texts config)
 IsCommand (command.DropReplication name) = IsTrue (is_bucket_name name)
-IsCommand (command.Put bucket key tags hold class bytes) = IsTrue (is_bucket_name bucket) × IsTrue (is_key key) × IsTrue (is_tag_set tags) × IsTrue (is_class_name class) × (length bytes ≤ 4194304)
+IsCommand (command.Put bucket key tags hold class bytes) = IsTrue (is_bucket_name bucket) × IsTrue (is_key key) × IsTrue (is_tag_set tags)
+    × IsTrue (is_class_name class) × (length bytes ≤ 4194304)
 IsCommand (command.Marker bucket key) = IsTrue (is_bucket_name bucket) × IsTrue (is_key key)
 IsCommand (command.Remove bucket key id) = IsTrue (is_bucket_name bucket) × IsTrue (is_key key) × IsVersionId id
 IsCommand (command.SetTags bucket key id tags) = IsTrue (is_bucket_name bucket) × IsTrue (is_key key) × IsVersionId id × IsTrue (is_tag_set tags)

@@ -66,8 +66,3 @@ pub fn decode(alloc: Global, bytes: &[u8]) -> Result<Command, RecordFault>
 {
     command_of(alloc, bytes)
 }
-
-/// No two commands are spelled alike.
-pub fn one_spelling()
-    ensures { (c d : Command) → IsCommand c → IsCommand d → spelling c ≡ spelling d → c ≡ d }
-{}

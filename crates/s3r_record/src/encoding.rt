@@ -1,6 +1,7 @@
 //! From a command to the bytes of its record.
 
-ghost use Rattle.std.specs.Prelude.{◌≡◌, ◌≤◌, ◌++◌, length, OnOk, IfOk};
+ghost use Rattle.std.specs.Prelude.{◌≡◌, ◌≤◌, ◌<◌, ◌^◌, ◌-◌, ◌++◌, length, drop, OnOk, IfOk};
+ghost use Rattle.std.specs.Int.{w32, to_be_bytes};
 ghost use Rattle.s3r_record.specs.Spelling.{spelling, IsCommand, MeetsLimits, frame};
 ghost use Rattle.s3r_record.specs.declared.command.Command.{Command};
 
@@ -52,30 +53,63 @@ fn write_command(out: &mut Vec<u8>, command: &Command) -> Result<(), AllocError>
     }
 }
 
-fn framed(alloc: Global, spelling: &[u8]) -> Result<Vec<u8>, AllocError>
-    requires { length spelling.now ≤ 16777216 }
-    ensures { IfOk result (λ v. v.items ≡ frame spelling.now) }
+/// Room for what is short in every record: its length, its gate, the names of a bucket and a class, an id and flags.
+const SHORT_FIELDS: usize = 128;
+
+/// The most bytes of a tag.
+const LONGEST_TAG: usize = 1540;
+
+/// More bytes than most rules have.
+const USUAL_RULE: usize = 256;
+
+/// At least the bytes of the command's record, but for long rules, so that its buffer seldom grows.
+fn likely_length(command: &Command) -> usize {
+    match command {
+        Command::CreateBucket { .. }
+        | Command::DeleteBucket { .. }
+        | Command::SetVersioning { .. }
+        | Command::DropReplication { .. } => SHORT_FIELDS,
+        Command::SetReplication { config, .. } => SHORT_FIELDS
+            + USUAL_RULE * config.as_slice().len(),
+        Command::Put {
+            key,
+            tags,
+            body,
+            ..
+        } => SHORT_FIELDS
+            + key.as_bytes().len()
+            + LONGEST_TAG * tags.as_slice().len()
+            + body.as_slice().len(),
+        Command::Marker { key, .. } | Command::Remove { key, .. } | Command::SetHold { key, .. } =>
+            SHORT_FIELDS + key.as_bytes().len(),
+        Command::SetTags { key, tags, .. } => SHORT_FIELDS
+            + key.as_bytes().len()
+            + LONGEST_TAG * tags.as_slice().len(),
+    }
+}
+
+/// Writes over the first four bytes how many stand between them and the last one.
+fn write_length(out: &mut [u8])
+    requires whole { 5 ≤ length out.old }
+    requires short { length out.old < 2 ^ 32 }
+    ensures { out.new ≡ to_be_bytes w32 (length out.old - 5) ++ drop 4 out.old }
 {
-    let mut out = Vec::with_capacity(alloc, 4 + spelling.len() + 1)?;
-    out.extend_from_slice(&(spelling.len() as u32).to_be_bytes())?;
-    out.extend_from_slice(spelling)?;
-    out.push(0)?;
-    Ok(out)
+    let length = (out.len() - 5) as u32;
+    let (front, _) = out.split_at_mut(4);
+    front.copy_from_slice(&length.to_be_bytes());
 }
 
 /// What a record holds of the command behind its gate: the length of its spelling, the spelling, and the next
-/// record's closed gate.
+/// record's closed gate. They are written into one buffer, so that a body is copied once.
 pub fn encode(alloc: Global, command: &Command) -> Result<Vec<u8>, AllocError>
     requires { MeetsLimits command.now }
     ensures framed { IfOk result (λ v. v.items ≡ frame (spelling command.now)) }
     ensures fits { OnOk result (IsCommand command.now) }
 {
-    let mut spelling = Vec::new(alloc);
-    write_command(&mut spelling, command)?;
-    framed(alloc, &spelling)
+    let mut out = Vec::with_capacity(alloc, likely_length(command))?;
+    out.extend_from_slice(&[0, 0, 0, 0])?;
+    write_command(&mut out, command)?;
+    out.push(0)?;
+    write_length(&mut out);
+    Ok(out)
 }
-
-/// The spelling of a command is short enough for a record.
-pub fn spelling_is_short()
-    ensures { (c : Command) → IsCommand c → length (spelling c) ≤ 16777216 }
-{}

@@ -40,15 +40,18 @@ are-more n m (b ∷ bs) le h =
     and_from _ _ (all-more n m b.rows.rows le parts.0) (are-more n m bs le parts.1)
 
 -- no row has the id of a later command
-pub none_later : (n : ℕ) (key : Name) (id : VersionId) (rows : List Entry) → n ≤ id.index → list_all (is_earlier n) rows ≡ true → find_version key id rows ≡ None
+pub none_later : (n : ℕ) (key : Name) (id : VersionId) (rows : List Entry) → n ≤ id.index → list_all (is_earlier n) rows ≡ true
+    → find_version key id rows ≡ None
 none_later n key id [] le h = refl
 none_later n key id (row ∷ rows) le h =
     let parts = and_parts (is_earlier n row) (list_all (is_earlier n) rows) h in
     let lt = ltb-true row.id.index n (and_parts (nat_lt row.id.index n) (is_id row.id) parts.0).0 in
-    let other : is_version key id row ≡ false = and_right (is_of_key key row) _ (and_right (row.id.region == id.region) _ (ne_eqb row.id.index id.index (λ e. absurd (omega arith)))) in
+    let other : is_version key id row ≡ false = and_right (is_of_key key row) _
+    (and_right (row.id.region == id.region) _ (ne_eqb row.id.index id.index (λ e. absurd (omega arith)))) in
     ap (λ t. cond t (Some row) (find_version key id rows)) other ∙ none_later n key id rows le parts.1
 
-kept_tags : (n : ℕ) (key : Name) (id : VersionId) (stamp : Stamp) (tags : List Tag) (row : Entry) → is_earlier n (if_version key id (with_tags stamp tags) row) ≡ is_earlier n row
+kept_tags : (n : ℕ) (key : Name) (id : VersionId) (stamp : Stamp) (tags : List Tag) (row : Entry)
+    → is_earlier n (if_version key id (with_tags stamp tags) row) ≡ is_earlier n row
 kept_tags n key id stamp tags row = go (is_version key id row) (is_before row.tags_stamp stamp)
   where
     go : (t u : Bool) → is_earlier n (cond t (cond u (record row { tags = tags; tags_stamp = stamp }) row) row) ≡ is_earlier n row
@@ -56,7 +59,8 @@ kept_tags n key id stamp tags row = go (is_version key id row) (is_before row.ta
     go true false = refl
     go false u = refl
 
-kept_hold : (n : ℕ) (key : Name) (id : VersionId) (stamp : Stamp) (hold : Bool) (row : Entry) → is_earlier n (if_version key id (with_hold stamp hold) row) ≡ is_earlier n row
+kept_hold : (n : ℕ) (key : Name) (id : VersionId) (stamp : Stamp) (hold : Bool) (row : Entry)
+    → is_earlier n (if_version key id (with_hold stamp hold) row) ≡ is_earlier n row
 kept_hold n key id stamp hold row = go (is_version key id row) (is_before row.hold_stamp stamp)
   where
     go : (t u : Bool) → is_earlier n (cond t (cond u (record row { hold = hold; hold_stamp = stamp }) row) row) ≡ is_earlier n row
@@ -65,17 +69,23 @@ kept_hold n key id stamp hold row = go (is_version key id row) (is_before row.ho
     go false u = refl
 
 -- a bucket after a change of the command before n
-changed_before : (n m : ℕ) (c : Change) (b : Bucket) → IsAt m c → 1 ≤ m → m < 18446744073709551616 → m + 1 ≡ n → list_all (is_earlier n) b.rows.rows ≡ true → list_all (is_earlier n) (changed c b).rows.rows ≡ true
+changed_before : (n m : ℕ) (c : Change) (b : Bucket) → IsAt m c → 1 ≤ m → m < 18446744073709551616 → m + 1 ≡ n → list_all (is_earlier n) b.rows.rows ≡ true
+    → list_all (is_earlier n) (changed c b).rows.rows ≡ true
 changed_before n m (change.Add row) b at first fits last all =
-    all-with_row (is_earlier n) row b.rows.rows (and_from _ _ (lt-ltb row.id.index n (omega (arith, at.0))) (and_from _ _ (le-leb 1 row.id.index (omega (arith, at.0))) (and_from _ _ (le-leb row.id.region 7 at.1) (lt-ltb row.id.index 18446744073709551616 (omega (arith, at.0)))))) all
+    all-with_row (is_earlier n) row b.rows.rows (and_from _ _ (lt-ltb row.id.index n (omega (arith, at.0)))
+    (and_from _ _ (le-leb 1 row.id.index (omega (arith, at.0))) (and_from _ _ (le-leb row.id.region 7 at.1)
+    (lt-ltb row.id.index 18446744073709551616 (omega (arith, at.0)))))) all
 changed_before n m (change.Remove key id) b at first fits last all = all-filter (is_earlier n) (λ (v : Entry). not (is_version key id v)) b.rows.rows all
-changed_before n m (change.Tags key id tags stamp) b at first fits last all = all-map (is_earlier n) (if_version key id (with_tags stamp tags)) (kept_tags n key id stamp tags) b.rows.rows ∙ all
-changed_before n m (change.Hold key id hold stamp) b at first fits last all = all-map (is_earlier n) (if_version key id (with_hold stamp hold)) (kept_hold n key id stamp hold) b.rows.rows ∙ all
+changed_before n m (change.Tags key id tags stamp) b at first fits last all =
+    all-map (is_earlier n) (if_version key id (with_tags stamp tags)) (kept_tags n key id stamp tags) b.rows.rows ∙ all
+changed_before n m (change.Hold key id hold stamp) b at first fits last all =
+    all-map (is_earlier n) (if_version key id (with_hold stamp hold)) (kept_hold n key id stamp hold) b.rows.rows ∙ all
 changed_before n m (change.Versioning enabled) b at first fits last all = all
 changed_before n m (change.Replication config) b at first fits last all = all
 
 -- one command more, which makes the change
-pub before-changed : (n : ℕ) (name : Name) (c : Change) (bs : List Bucket) → IsAt n c → 1 ≤ n → n < 18446744073709551616 → are_earlier n bs ≡ true → are_earlier (n + 1) (set_first (is_named name) (changed c) bs) ≡ true
+pub before-changed : (n : ℕ) (name : Name) (c : Change) (bs : List Bucket) → IsAt n c → 1 ≤ n → n < 18446744073709551616 → are_earlier n bs ≡ true
+    → are_earlier (n + 1) (set_first (is_named name) (changed c) bs) ≡ true
 before-changed n name c bs at first fits h =
     all-set_first (is_named name) (λ b. list_all (is_earlier (n + 1)) b.rows.rows) (changed c) bs
     (λ b all. changed_before (n + 1) n c b at first fits refl all)
@@ -86,7 +96,8 @@ pub before-deleted : (n : ℕ) (name : Name) (bs : List Bucket) → are_earlier 
 before-deleted n name bs h = all-without_first (is_named name) (λ b. list_all (is_earlier (n + 1)) b.rows.rows) bs (are-more n (n + 1) bs (omega arith) h)
 
 -- one bucket more
-pub before-created : (n : ℕ) (name : Name) (locked : Bool) (bs : List Bucket) → are_earlier n bs ≡ true → are_earlier (n + 1) (bs ++ new_bucket name locked ∷ []) ≡ true
+pub before-created : (n : ℕ) (name : Name) (locked : Bool) (bs : List Bucket) → are_earlier n bs ≡ true
+    → are_earlier (n + 1) (bs ++ new_bucket name locked ∷ []) ≡ true
 before-created n name locked [] h = refl
 before-created n name locked (b ∷ bs) h =
     let parts = and_parts (list_all (is_earlier n) b.rows.rows) (are_earlier n bs) h in
@@ -106,21 +117,25 @@ found-ids n name (x ∷ xs) b all is = go (is_named name x) is (found-ids n name
     parts : (list_all (is_earlier n) x.rows.rows ≡ true) × (are_earlier n xs ≡ true)
     parts = and_parts (list_all (is_earlier n) x.rows.rows) (are_earlier n xs) all
 
-    go : (t : Bool) → cond t (Some x) (find (is_named name) xs) ≡ Some b → (find (is_named name) xs ≡ Some b → have_ids b.rows.rows ≡ true) → have_ids b.rows.rows ≡ true
+    go : (t : Bool) → cond t (Some x) (find (is_named name) xs) ≡ Some b → (find (is_named name) xs ≡ Some b → have_ids b.rows.rows ≡ true)
+        → have_ids b.rows.rows ≡ true
     go true e ih = ap (λ (y : Bucket). have_ids y.rows.rows) (sym (same_Some x b e)) ∙ rows-ids n x.rows.rows parts.0
     go false e ih = ih e
 
 -- a row that is added is free in the bucket at the place
-pub free_at : (c : Change) (p : Bucket → Bool) (bs : List Bucket) (i : ℕ) (b : Bucket) → b ≡ slice_index_or bs i b → IsFirstAt p i bs → IsLater c bs → IsFree c b
+pub free_at : (c : Change) (p : Bucket → Bool) (bs : List Bucket) (i : ℕ) (b : Bucket) → b ≡ slice_index_or bs i b → IsFirstAt p i bs → IsLater c bs
+    → IsFree c b
 free_at (change.Add row) p bs i b at first later =
     none_later row.id.index row.key row.id b.rows.rows (omega arith)
-    (ap (λ (x : Bucket). list_all (is_earlier row.id.index) x.rows.rows) at ∙ all-first p (λ (x : Bucket). list_all (is_earlier row.id.index) x.rows.rows) bs i b first later)
+    (ap (λ (x : Bucket). list_all (is_earlier row.id.index) x.rows.rows) at
+    ∙ all-first p (λ (x : Bucket). list_all (is_earlier row.id.index) x.rows.rows) bs i b first later)
 free_at (change.Remove key id) p bs i b at first later = tt
 free_at (change.Tags key id tags stamp) p bs i b at first later = tt
 free_at (change.Hold key id hold stamp) p bs i b at first later = tt
 free_at (change.Versioning enabled) p bs i b at first later = tt
 free_at (change.Replication config) p bs i b at first later = tt
 
-pub if_found_ids : (n : ℕ) (name : Name) (bs : List Bucket) (o : Option (Bor Bucket)) → option_copied o ≡ find (is_named name) bs → are_earlier n bs ≡ true → IfSome o (λ b. IsTrue (have_ids b.now.rows.rows))
+pub if_found_ids : (n : ℕ) (name : Name) (bs : List Bucket) (o : Option (Bor Bucket)) → option_copied o ≡ find (is_named name) bs → are_earlier n bs ≡ true
+    → IfSome o (λ b. IsTrue (have_ids b.now.rows.rows))
 if_found_ids n name bs None is all = tt
 if_found_ids n name bs (Some b) is all = found-ids n name bs b.now all (sym is)

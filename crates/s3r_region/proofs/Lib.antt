@@ -1,4 +1,4 @@
 pub mod Places
 pub mod Earlier
-pub mod Told
+pub mod BucketView
 pub mod Steps

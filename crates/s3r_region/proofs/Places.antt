@@ -26,13 +26,15 @@ first-position p xs i h =
     let e : w.0 ≡ i = omega (arith, w.1) in
     subst (λ n. IsFirstAt p n xs) e w.2
 
-set_first-at : {X : Type 0} (p : X → Bool) (f : X → X) (xs : List X) (i : ℕ) (d : X) → IsFirstAt p i xs → slice_set xs i (f (slice_index_or xs i d)) ≡ set_first p f xs
+set_first-at : {X : Type 0} (p : X → Bool) (f : X → X) (xs : List X) (i : ℕ) (d : X) → IsFirstAt p i xs
+    → slice_set xs i (f (slice_index_or xs i d)) ≡ set_first p f xs
 set_first-at p f [] i d h = absurd h
 set_first-at p f (x ∷ xs) zero d h = sym (ap (λ t. cond t (f x ∷ xs) (x ∷ set_first p f xs)) h)
 set_first-at p f (x ∷ xs) (suc i) d h = ap (λ ys. x ∷ ys) (set_first-at p f xs i d h.1) ∙ sym (ap (λ t. cond t (f x ∷ xs) (x ∷ set_first p f xs)) h.0)
 
 -- the element x at the place is the changed one
-pub set_at : {X : Type 0} (p : X → Bool) (f : X → X) (xs : List X) (i : ℕ) (x d : X) → position p xs ≡ Some i → x ≡ f d → d ≡ slice_index_or xs i d → slice_set xs i x ≡ set_first p f xs
+pub set_at : {X : Type 0} (p : X → Bool) (f : X → X) (xs : List X) (i : ℕ) (x d : X) → position p xs ≡ Some i → x ≡ f d → d ≡ slice_index_or xs i d
+    → slice_set xs i x ≡ set_first p f xs
 set_at p f xs i x d h e at = ap (λ y. slice_set xs i y) (e ∙ ap f at) ∙ set_first-at p f xs i d (first-position p xs i h)
 
 none_from : {X : Type 0} (p : X → Bool) (f : X → X) (k : ℕ) (xs : List X) → position_from p k xs ≡ None → set_first p f xs ≡ xs
@@ -61,7 +63,8 @@ all-first p q [] i d h all = absurd h
 all-first p q (x ∷ xs) zero d h all = (and_parts (q x) (list_all q xs) all).0
 all-first p q (x ∷ xs) (suc i) d h all = all-first p q xs i d h.1 (and_parts (q x) (list_all q xs) all).1
 
-pub all-set_first : {X : Type 0} (p q : X → Bool) (f : X → X) (xs : List X) → ((x : X) → q x ≡ true → q (f x) ≡ true) → list_all q xs ≡ true → list_all q (set_first p f xs) ≡ true
+pub all-set_first : {X : Type 0} (p q : X → Bool) (f : X → X) (xs : List X) → ((x : X) → q x ≡ true → q (f x) ≡ true) → list_all q xs ≡ true
+    → list_all q (set_first p f xs) ≡ true
 all-set_first p q f [] keeps all = refl
 all-set_first p q f (x ∷ xs) keeps all = go (p x) (all-set_first p q f xs keeps parts.1)
   where
@@ -106,7 +109,8 @@ kept_from : {X : Type 0} (p : X → Bool) (k : ℕ) (xs : List X) → position_f
 kept_from p k [] h = refl
 kept_from p k (x ∷ xs) h = go (p x) h (kept_from p (k + 1) xs)
   where
-    go : (t : Bool) → cond t (Some k) (position_from p (k + 1) xs) ≡ None → (position_from p (k + 1) xs ≡ None → without_first p xs ≡ xs) → cond t xs (x ∷ without_first p xs) ≡ x ∷ xs
+    go : (t : Bool) → cond t (Some k) (position_from p (k + 1) xs) ≡ None → (position_from p (k + 1) xs ≡ None → without_first p xs ≡ xs)
+        → cond t xs (x ∷ without_first p xs) ≡ x ∷ xs
     go true h ih = absurd cc
     go false h ih = ap (λ ys. x ∷ ys) (ih h)
 

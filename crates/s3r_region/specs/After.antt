@@ -4,20 +4,20 @@ use Rattle.s3r_history.specs.Words.{Name, History}
 use Rattle.s3r_history.specs.Buckets.{names}
 use Rattle.s3r_history.specs.Past.{clock}
 use Rattle.s3r_history.specs.Deeds.{deeds}
-use Rattle.s3r_history.specs.Told.{Told, told}
+use Rattle.s3r_history.specs.BucketView.{BucketView, told}
 use Rattle.s3r_history.specs.Laws.{is_once}
 use Rattle.s3r_region.specs.declared.bucket.Bucket.{Bucket}
 use Rattle.s3r_region.specs.Contents.{Contents, is_named, names_of}
 
 -- what a bucket of a state tells
-abbrev pub told_by : Bucket → Told
+abbrev pub told_by : Bucket → BucketView
 told_by b = record { locked = b.locked; enabled = b.enabled; config = b.config; rows = b.rows.rows; removed = b.rows.removed }
 
 -- the state's first bucket of this name
 abbrev pub seen_bucket : Contents → Name → Option Bucket
 seen_bucket s b = find (is_named b) s.buckets
 
-abbrev pub seen : Contents → Name → Option Told
+abbrev pub seen : Contents → Name → Option BucketView
 seen s b = option_map told_by (seen_bucket s b)
 
 -- the state is after this history of its region

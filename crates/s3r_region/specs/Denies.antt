@@ -3,7 +3,7 @@ use Rattle.std.specs.Prelude.{◌≡◌, Option, Some, None, Result, Ok, Err}
 use Rattle.std.specs.Borrow.{Bor}
 use Rattle.s3r_history.specs.declared.refusal.Refusal.{Refusal}
 use Rattle.s3r_history.specs.declared.refusal.Refusal.TheVariants as refusals
-use Rattle.s3r_history.specs.Told.{Told}
+use Rattle.s3r_history.specs.BucketView.{BucketView}
 use Rattle.s3r_region.specs.declared.bucket.Bucket.{Bucket}
 use Rattle.s3r_region.specs.After.{told_by}
 use Rattle.s3r_region.specs.declared.state.Deny.{Deny}
@@ -16,7 +16,7 @@ Accepts cause (Err (Refused refusal)) = cause ≡ Some refusal
 Accepts cause (Err OutOfMemory) = ⊥
 
 -- the bucket that is told of, or the refusal of one that isn't there
-abbrev pub Gives : Option Told → Result (Bor Bucket) Deny → Type 0
+abbrev pub Gives : Option BucketView → Result (Bor Bucket) Deny → Type 0
 Gives at (Ok bucket) = at ≡ Some (told_by bucket.now)
 Gives at (Err (Refused refusal)) = (at ≡ None) × (refusal ≡ refusals.NoSuchBucket)
 Gives at (Err OutOfMemory) = ⊥

@@ -258,7 +258,11 @@ impl State {
 
     fn create(&mut self, alloc: Global, name: BucketName, locked: bool) -> Result<(), AllocError>
         requires { self.old.commands + 1 < 2 ^ 64 }
-        ensures created { OnOk result (self.new ≡ record self.old { commands = self.old.commands + 1; buckets = self.old.buckets ++ new_bucket name locked ∷ [] }) }
+        ensures created { OnOk result (self.new ≡ record self.old {
+          commands = self.old.commands + 1;
+          buckets =
+              self.old.buckets ++ new_bucket name locked ∷ [];
+        }) }
         ensures region { self.new.region ≡ self.old.region }
         ensures regions { self.new.regions ≡ self.old.regions }
     {
@@ -269,7 +273,11 @@ impl State {
 
     fn delete(&mut self, name: &BucketName) -> Result<(), AllocError>
         requires { self.old.commands + 1 < 2 ^ 64 }
-        ensures deleted { OnOk result (self.new ≡ record self.old { commands = self.old.commands + 1; buckets = without_first (is_named name.now) self.old.buckets }) }
+        ensures deleted { OnOk result (self.new ≡ record self.old {
+          commands = self.old.commands + 1;
+          buckets =
+              without_first (is_named name.now) self.old.buckets;
+        }) }
         ensures region { self.new.region ≡ self.old.region }
         ensures regions { self.new.regions ≡ self.old.regions }
     {

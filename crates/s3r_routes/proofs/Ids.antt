@@ -61,10 +61,12 @@ told-own id is = rw (may-is id is, (bytes_eq-Decides (version_text id) (version_
 pub named : (text : List ℕ) (id : VersionId) → IsVersionId id → text ≡ version_text id → version_named text ≡ Ok id
 named text id is e = ap version_named e ∙ ap (told (version_text id)) (like-back id is) ∙ told-own id is
 
-pub none-named : (text : List ℕ) (found : Option VersionId) → found ≡ None → ((id : VersionId) → IsVersionId id → text ≡ version_text id → found ≡ Some id) → version_named text ≡ Err InvalidVersionId
+pub none-named : (text : List ℕ) (found : Option VersionId) → found ≡ None → ((id : VersionId) → IsVersionId id → text ≡ version_text id → found ≡ Some id)
+    → version_named text ≡ Err InvalidVersionId
 none-named text found none only = go (may_be (id_like text) && bytes_eq text (version_text (id_like text))) refl
   where
-    go : (b : Bool) → (may_be (id_like text) && bytes_eq text (version_text (id_like text))) ≡ b → (if b then Ok (id_like text) else Err InvalidVersionId) ≡ Err InvalidVersionId
+    go : (b : Bool) → (may_be (id_like text) && bytes_eq text (version_text (id_like text))) ≡ b
+        → (if b then Ok (id_like text) else Err InvalidVersionId) ≡ Err InvalidVersionId
     go false e = refl
     go true e =
         let parts = and_parts (may_be (id_like text)) (bytes_eq text (version_text (id_like text))) e in
@@ -76,6 +78,7 @@ none-named text found none only = go (may_be (id_like text) && bytes_eq text (ve
 pub named-is : (text : List ℕ) → IfOk (version_named text) IsVersionId
 named-is text = go (may_be (id_like text) && bytes_eq text (version_text (id_like text))) refl
   where
-    go : (b : Bool) → (may_be (id_like text) && bytes_eq text (version_text (id_like text))) ≡ b → IfOk {T = VersionId} {E = RouteFault} (if b then Ok (id_like text) else Err InvalidVersionId) IsVersionId
+    go : (b : Bool) → (may_be (id_like text) && bytes_eq text (version_text (id_like text))) ≡ b
+        → IfOk {T = VersionId} {E = RouteFault} (if b then Ok (id_like text) else Err InvalidVersionId) IsVersionId
     go true e = is-may (id_like text) (and_parts (may_be (id_like text)) (bytes_eq text (version_text (id_like text))) e).0
     go false e = tt

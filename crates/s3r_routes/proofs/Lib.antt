@@ -3,3 +3,11 @@ pub mod Ids
 pub mod Decimals
 pub mod RouteExamples
 pub mod Limits
+pub mod TableRows
+pub mod OneRow
+pub mod Cuts
+pub mod PathRows
+pub mod PathTree
+pub mod PathForms
+pub mod PlaceNames
+pub mod Patterns

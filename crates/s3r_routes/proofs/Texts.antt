@@ -23,7 +23,8 @@ after done (Err fault) = Err fault
 after done (Ok pairs) = Ok (done ++ pairs)
 
 step : (pair : Pair) (pairs : List Pair) (name value rest : Bool) →
-    in_front (if name then Ok pair.0 else Err InvalidQuery) (if value then Ok pair.1 else Err InvalidQuery) (if rest then Ok (filter counts pairs) else Err InvalidQuery)
+    in_front (if name then Ok pair.0 else Err InvalidQuery) (if value then Ok pair.1 else Err InvalidQuery)
+    (if rest then Ok (filter counts pairs) else Err InvalidQuery)
     ≡ (if (name && value) && rest then Ok (filter counts (pair ∷ pairs)) else Err InvalidQuery)
 step pair pairs false value rest = refl
 step pair pairs true false rest = refl

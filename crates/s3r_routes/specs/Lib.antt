@@ -1,9 +1,12 @@
 pub mod Faults
 pub mod Target
 pub mod Places
+pub mod Paths
 pub mod Words
 pub mod Query
+pub mod Table
 pub mod Rows
 pub mod Names
 pub mod Numbers
 pub mod Values
+pub mod Laws

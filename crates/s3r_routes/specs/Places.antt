@@ -1,9 +1,9 @@
 -- What the code's places stand for.
-use Rattle.s3r_routes.specs.declared.target.Place.{Place}
-use Rattle.s3r_routes.specs.declared.target.Place.TheVariants as place
+use Rattle.s3r_routes.specs.declared.target.Target.{Target}
+use Rattle.s3r_routes.specs.declared.target.Target.TheVariants as place
 use Rattle.s3r_routes.specs.Target as target
 
-abbrev pub seen : Place → target.Place
+abbrev pub seen : Target → target.Target
 seen (place.Bucket name) = target.bucket name.now
 seen (place.Object name key) = target.object name.now key.now
 seen place.Jobs = target.jobs

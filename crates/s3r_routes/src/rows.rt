@@ -1,16 +1,15 @@
 //! The request table: which row a path, its words and its method fit.
 
-ghost use Rattle.std.specs.Prelude.{◌≡◌, option_map, option_and_then};
+ghost use Rattle.std.specs.Prelude.{◌≡◌, map};
 ghost use Rattle.std.specs.List.{list_all, list_any};
-ghost use Rattle.std.specs.Str.{bytes_eq};
 ghost use Rattle.s3r_routes.specs.Query.{Pair};
-ghost use Rattle.s3r_routes.specs.Words.{word_text};
 ghost use Rattle.s3r_routes.specs.Places.{seen};
-ghost use Rattle.s3r_routes.specs.Rows.{verb_text, is_other, is_word_of, is_met, fits, is_by, rows_at, route_by, fits_any, route_of};
+ghost use Rattle.s3r_routes.specs.Table.{rows_at};
+ghost use Rattle.s3r_routes.specs.Rows.{verb_text, words_of, seen_row, is_spelled, is_word_of, is_met, fits_row, is_row_by, route_in, route_of};
 
 use crate::fault::RouteFault;
 use crate::query::{Query, is_word};
-use crate::target::Place;
+use crate::target::Target;
 use crate::words::Word;
 
 /// A request of the table.
@@ -137,21 +136,21 @@ const WORK: [Row; 1] = [row!(Post, Rounds => Work)];
 
 const CHECK: [Row; 1] = [row!(Get, Nothing => Check)];
 
-/// The rows of a path.
-fn rows_at(place: &Place) -> &'static [Row]
-    ensures { result.now ≡ rows_at (seen place.now) }
+/// The rows of a path, which are the table's.
+fn rows_at(place: &Target) -> &'static [Row]
+    ensures { map seen_row result.now ≡ rows_at (seen place.now) }
 {
     match place {
-        Place::Bucket(_) => &BUCKET,
-        Place::Object(_, _) => &OBJECT,
-        Place::Jobs => &JOBS,
-        Place::Job(_) => &JOB,
-        Place::JobPriority(_) => &JOB_PRIORITY,
-        Place::JobStatus(_) => &JOB_STATUS,
-        Place::Copy => &COPY,
-        Place::JobTurn => &JOB_TURN,
-        Place::Work => &WORK,
-        Place::Check => &CHECK,
+        Target::Bucket(_) => &BUCKET,
+        Target::Object(_, _) => &OBJECT,
+        Target::Jobs => &JOBS,
+        Target::Job(_) => &JOB,
+        Target::JobPriority(_) => &JOB_PRIORITY,
+        Target::JobStatus(_) => &JOB_STATUS,
+        Target::Copy => &COPY,
+        Target::JobTurn => &JOB_TURN,
+        Target::Work => &WORK,
+        Target::Check => &CHECK,
     }
 }
 
@@ -167,39 +166,48 @@ fn verb_text(verb: Verb) -> &'static str
     }
 }
 
-fn is_other(others: Others, name: &str) -> bool
-    ensures { result ≡ is_other others name.now }
+fn words_of(others: Others) -> &'static [Word]
+    ensures { result.now ≡ words_of others }
 {
     match others {
-        Others::Nothing => false,
-        Others::Version => is_word(name, Word::VersionId),
-        Others::Page => {
-            is_word(name, Word::Prefix)
-                || is_word(name, Word::KeyMarker)
-                || is_word(name, Word::VersionIdMarker)
-                || is_word(name, Word::MaxKeys)
-        }
-        Others::Priority => is_word(name, Word::Priority),
-        Others::Status => is_word(name, Word::RequestedJobStatus),
-        Others::Pair => is_word(name, Word::From) || is_word(name, Word::To),
-        Others::Region => is_word(name, Word::Region),
-        Others::Rounds => is_word(name, Word::Rounds),
+        Others::Nothing => &[],
+        Others::Version => &[Word::VersionId],
+        Others::Page => &[
+            Word::Prefix,
+            Word::KeyMarker,
+            Word::VersionIdMarker,
+            Word::MaxKeys,
+        ],
+        Others::Priority => &[Word::Priority],
+        Others::Status => &[Word::RequestedJobStatus],
+        Others::Pair => &[Word::From, Word::To],
+        Others::Region => &[Word::Region],
+        Others::Rounds => &[Word::Rounds],
     }
 }
 
-/// Whether the row has this word.
-fn is_word_of(row: &Row, name: &str) -> bool
-    ensures { result ≡ is_word_of row.now name.now }
+fn is_one_of(words: &[Word], name: &str) -> bool
+    ensures { result ≡ list_any (is_spelled name.now) words.now }
 {
+    words.iter().any(|word| is_word(name, *word))
+}
+
+/// Whether the row has this word.
+#[tactic(auto, using(crate::proofs::TableRows::any_of_texts, crate::proofs::TableRows::or_nothing))]
+fn is_word_of(row: &Row, name: &str) -> bool
+    ensures { result ≡ is_word_of (seen_row row.now) name.now }
+{
+    let is_other = is_one_of(words_of(row.others), name);
     match row.need {
-        Some(word) => is_word(name, word) || is_other(row.others, name),
-        None => is_other(row.others, name),
+        Some(word) => is_word(name, word) || is_other,
+        None => is_other,
     }
 }
 
 /// Whether the row's obligatory word is there.
+#[tactic(auto, using(crate::proofs::TableRows::and_nothing))]
 fn is_met(row: &Row, query: &Query) -> bool
-    ensures { result ≡ is_met query.now row.now }
+    ensures { result ≡ is_met query.now (seen_row row.now) }
 {
     match row.need {
         Some(word) => query.has(word),
@@ -208,7 +216,7 @@ fn is_met(row: &Row, query: &Query) -> bool
 }
 
 fn has_each_word(row: &Row, query: &Query) -> bool
-    ensures { result ≡ list_all (λ (pair : Pair). is_word_of row.now pair.0) query.now }
+    ensures { result ≡ list_all (λ (pair : Pair). is_word_of (seen_row row.now) pair.0) query.now }
 {
     query
         .as_slice()
@@ -217,19 +225,19 @@ fn has_each_word(row: &Row, query: &Query) -> bool
 }
 
 fn fits(row: &Row, query: &Query) -> bool
-    ensures { result ≡ fits query.now row.now }
+    ensures { result ≡ fits_row query.now row.now }
 {
     has_each_word(row, query) && is_met(row, query)
 }
 
 fn is_by(row: &Row, method: &str) -> bool
-    ensures { result ≡ is_by method.now row.now }
+    ensures { result ≡ is_row_by method.now row.now }
 {
     verb_text(row.verb) == method
 }
 
 fn route_by(rows: &[Row], method: &str, query: &Query) -> Option<Route>
-    ensures { result ≡ route_by rows.now method.now query.now }
+    ensures { result ≡ route_in rows.now method.now query.now }
 {
     let row = rows
         .iter()
@@ -238,14 +246,15 @@ fn route_by(rows: &[Row], method: &str, query: &Query) -> Option<Route>
 }
 
 fn fits_any(rows: &[Row], query: &Query) -> bool
-    ensures { result ≡ fits_any rows.now query.now }
+    ensures { result ≡ list_any (fits_row query.now) rows.now }
 {
     rows.iter().any(|row| fits(row, query))
 }
 
 /// What is asked at a place by a method and these words. WrongMethod where only rows with another method fit (RFC 9110,
 /// section 15.5.6), and UnknownQuery where no row does.
-pub fn route_of(place: &Place, method: &str, query: &Query) -> Result<Route, RouteFault>
+#[tactic(auto, using(crate::proofs::TableRows::route_of_rows, crate::proofs::TableRows::any_of_rows))]
+pub fn route_of(place: &Target, method: &str, query: &Query) -> Result<Route, RouteFault>
     ensures { result ≡ route_of (seen place.now) method.now query.now }
 {
     let rows = rows_at(place);

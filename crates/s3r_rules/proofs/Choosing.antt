@@ -58,7 +58,8 @@ module _ (test : Rule → Bool) where
       go (λ before e h. least rules before m k e h parts.1) (test rule) refl e parts.0
     where
       go : ((before : Option ℕ) → greatest_from test before rules ≡ Some m → AtMost before k → m ≤ k)
-          → (b : Bool) → test rule ≡ b → greatest_from test (if b then above most rule.priority else most) rules ≡ Some m → (not (test rule) || nat_le rule.priority k) ≡ true → m ≤ k
+          → (b : Bool) → test rule ≡ b → greatest_from test (if b then above most rule.priority else most) rules ≡ Some m
+          → (not (test rule) || nat_le rule.priority k) ≡ true → m ≤ k
       go ih false is e one = ih most e h
       go ih true is e one =
           let low : nat_le rule.priority k ≡ true = sym (ap (λ b. not b || nat_le rule.priority k) is) ∙ one in
@@ -78,12 +79,15 @@ module _ (test : Rule → Bool) where
   none-found all [] e = refl
   none-found all (rule ∷ rules) e = go (none-found all rules) (test rule) refl e
     where
-      go : (greatest_from test None rules ≡ None → find (is_choice test all) rules ≡ None) → (b : Bool) → test rule ≡ b → greatest_from test (if b then Some rule.priority else None) rules ≡ None
-          → cond (test rule && list_all (λ (other : Rule). not (test other) || nat_le other.priority rule.priority) all) (Some rule) (find (is_choice test all) rules) ≡ None
+      go : (greatest_from test None rules ≡ None → find (is_choice test all) rules ≡ None) → (b : Bool) → test rule ≡ b
+          → greatest_from test (if b then Some rule.priority else None) rules ≡ None
+          → cond (test rule && list_all (λ (other : Rule). not (test other) || nat_le other.priority rule.priority) all) (Some rule)
+          (find (is_choice test all) rules) ≡ None
       go ih false is e = rw is (ih e)
       go ih true is e = absurd (never-none rules rule.priority e)
 
-  same-test : (all : List Rule) (m : ℕ) (rule : Rule) → list_all (within m) all ≡ true → ((k : ℕ) → list_all (within k) all ≡ true → m ≤ k) → within m rule ≡ true
+  same-test : (all : List Rule) (m : ℕ) (rule : Rule) → list_all (within m) all ≡ true → ((k : ℕ) → list_all (within k) all ≡ true → m ≤ k)
+      → within m rule ≡ true
       → with_priority test m rule ≡ is_choice test all rule
   same-test all m rule bound low one = go (test rule) refl one
     where
@@ -95,11 +99,13 @@ module _ (test : Rule → Bool) where
           sym (ap (λ k. list_all (within k) all) same ∙ bound) ∙ f
       decide false true e f le = let ge = low rule.priority f in grind (arith, nat_tests)
 
-      go : (b : Bool) → test rule ≡ b → (not b || nat_le rule.priority m) ≡ true → (test rule && rule.priority == m) ≡ (test rule && list_all (within rule.priority) all)
+      go : (b : Bool) → test rule ≡ b → (not b || nat_le rule.priority m) ≡ true
+          → (test rule && rule.priority == m) ≡ (test rule && list_all (within rule.priority) all)
       go false is one = rw is refl
       go true is one = rw is (decide (rule.priority == m) (list_all (within rule.priority) all) refl refl (true-le rule.priority m one))
 
-  found : (all rules : List Rule) (m : ℕ) → list_all (within m) all ≡ true → ((k : ℕ) → list_all (within k) all ≡ true → m ≤ k) → list_all (within m) rules ≡ true
+  found : (all rules : List Rule) (m : ℕ) → list_all (within m) all ≡ true → ((k : ℕ) → list_all (within k) all ≡ true → m ≤ k)
+      → list_all (within m) rules ≡ true
       → find (with_priority test m) rules ≡ find (is_choice test all) rules
   found all [] m bound low each = refl
   found all (rule ∷ rules) m bound low each =

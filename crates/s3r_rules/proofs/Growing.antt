@@ -17,7 +17,8 @@ use Rattle.s3r_rules.specs.Faults.{◌>>=◌}
 use Rattle.s3r_rules.specs.Rules.{is_empty, is_class, is_rule, has_id, has_priority, are_apart, is_config}
 use Rattle.s3r_rules.specs.Reading.{wrong, id_text, id_from, priority_from, prefix_from, tags_from, bucket_from, class_from, unless_wrong, rule_beside, rule_from, rules_from, config_from}
 
-pub ok-bind : {A B : Type 0} (P : A → Type 0) (Q : B → Type 0) (r : Result A ConfigFault) (f : A → Result B ConfigFault) → IfOk r P → ((x : A) → P x → IfOk (f x) Q) → IfOk (r >>= f) Q
+pub ok-bind : {A B : Type 0} (P : A → Type 0) (Q : B → Type 0) (r : Result A ConfigFault) (f : A → Result B ConfigFault) → IfOk r P
+    → ((x : A) → P x → IfOk (f x) Q) → IfOk (r >>= f) Q
 ok-bind P Q (Ok x) f h next = next x h
 ok-bind P Q (Err fault) f h next = tt
 
@@ -72,13 +73,16 @@ class-is n (Some name) = ok-if Classed (is_class_name name) (Some name) n kind.B
 abbrev pub Fits : List Rule → Rule → Type 0
 Fits earlier rule = (is_rule rule ≡ true) × (list_any (has_id rule) earlier ≡ false) × (list_any (has_priority rule) earlier ≡ false)
 
-beside-is : (n : ℕ) (earlier : List Rule) (rule : Rule) → Short rule.id → Low rule.priority → Begins rule.prefix → Set rule.tags → Named rule.bucket → Classed rule.class
+beside-is : (n : ℕ) (earlier : List Rule) (rule : Rule) → Short rule.id → Low rule.priority → Begins rule.prefix → Set rule.tags → Named rule.bucket
+    → Classed rule.class
     → IfOk (rule_beside n earlier rule) (Fits earlier)
 beside-is n earlier rule id priority prefix tags bucket class =
     go (rule.markers && not (is_empty rule.tags)) refl (list_any (has_id rule) earlier) refl (list_any (has_priority rule) earlier) refl
   where
-    go : (a : Bool) → (rule.markers && not (is_empty rule.tags)) ≡ a → (b : Bool) → list_any (has_id rule) earlier ≡ b → (c : Bool) → list_any (has_priority rule) earlier ≡ c
-        → IfOk (unless_wrong n rule (if a then Some kind.TagWithMarkers else (if b then Some kind.SameId else (if c then Some kind.SamePriority else None)))) (Fits earlier)
+    go : (a : Bool) → (rule.markers && not (is_empty rule.tags)) ≡ a → (b : Bool) → list_any (has_id rule) earlier ≡ b → (c : Bool)
+        → list_any (has_priority rule) earlier ≡ c
+        → IfOk (unless_wrong n rule (if a then Some kind.TagWithMarkers else (if b then Some kind.SameId else (if c then Some kind.SamePriority else None))))
+        (Fits earlier)
     go true e b f c g = tt
     go false e true f c g = tt
     go false e false f true g = tt
@@ -97,7 +101,8 @@ rule-is n earlier draft =
 
 -- ---- rules in turn
 
-pub all-snoc : (test : Rule → Bool) (rules : List Rule) (rule : Rule) → list_all test rules ≡ true → test rule ≡ true → list_all test (rules ++ rule ∷ []) ≡ true
+pub all-snoc : (test : Rule → Bool) (rules : List Rule) (rule : Rule) → list_all test rules ≡ true → test rule ≡ true
+    → list_all test (rules ++ rule ∷ []) ≡ true
 all-snoc test [] rule all one = rw one refl
 all-snoc test (first ∷ rules) rule all one =
     let parts = and_parts (test first) (list_all test rules) all in
@@ -107,7 +112,8 @@ pub none-parts : (a b : Bool) → (a || b) ≡ false → (not a ≡ true) × (b 
 none-parts true b e = absurd (cc e)
 none-parts false b e = (refl, e)
 
-pub apart-snoc : (clash : Rule → Rule → Bool) (rules : List Rule) (rule : Rule) → are_apart clash rules ≡ true → list_any (clash rule) rules ≡ false → are_apart clash (rules ++ rule ∷ []) ≡ true
+pub apart-snoc : (clash : Rule → Rule → Bool) (rules : List Rule) (rule : Rule) → are_apart clash rules ≡ true → list_any (clash rule) rules ≡ false
+    → are_apart clash (rules ++ rule ∷ []) ≡ true
 apart-snoc clash [] rule apart none = refl
 apart-snoc clash (first ∷ rules) rule apart none =
     let parts = and_parts (list_all (λ other. not (clash other first)) rules) (are_apart clash rules) apart in
@@ -121,7 +127,8 @@ Lawful rules = (list_all is_rule rules ≡ true) × (are_apart has_id rules ≡ 
 abbrev Grows : List Rule → List Draft → List Rule → Type 0
 Grows rules drafts done = Lawful done × (length done ≡ length rules + length drafts)
 
-longer : (draft : Draft) (drafts : List Draft) (rules : List Rule) (rule : Rule) (r : Result (List Rule) ConfigFault) → length (rules ++ rule ∷ []) ≡ length rules + 1
+longer : (draft : Draft) (drafts : List Draft) (rules : List Rule) (rule : Rule) (r : Result (List Rule) ConfigFault)
+    → length (rules ++ rule ∷ []) ≡ length rules + 1
     → IfOk r (Grows (rules ++ rule ∷ []) drafts) → IfOk r (Grows rules (draft ∷ drafts))
 longer draft drafts rules rule (Ok done) e h = (h.0, omega (arith, e, h.1))
 longer draft drafts rules rule (Err fault) e h = tt
@@ -131,7 +138,11 @@ grows [] rules lawful = (lawful, omega arith)
 grows (draft ∷ drafts) rules lawful =
     ok-bind (Fits rules) (Grows rules (draft ∷ drafts)) (rule_from (length rules + 1) rules draft) _ (rule-is (length rules + 1) rules draft)
     (λ rule fits.
-    let next : Lawful (rules ++ rule ∷ []) = (all-snoc is_rule rules rule lawful.0 fits.0, apart-snoc has_id rules rule lawful.1 fits.1, apart-snoc has_priority rules rule lawful.2 fits.2) in
+    let next : Lawful (rules ++ rule ∷ []) = (
+      all-snoc is_rule rules rule lawful.0 fits.0,
+      apart-snoc has_id rules rule lawful.1 fits.1,
+      apart-snoc has_priority rules rule lawful.2 fits.2,
+    ) in
     longer draft drafts rules rule (rules_from (rules ++ rule ∷ []) drafts) (length-append rules (rule ∷ [])) (grows drafts (rules ++ rule ∷ []) next))
 
 pub at_ok : {A : Type 0} (P : A → Type 0) (r : Result A ConfigFault) (x : A) → r ≡ Ok x → IfOk r P → P x
@@ -155,6 +166,7 @@ drafts_lawful (draft ∷ drafts) = go (nat_lt 1000 (length (draft ∷ drafts))) 
     some (Ok rules) e few = config_is (draft ∷ drafts) rules (omega arith) few e
     some (Err fault) e few = tt
 
-    go : (b : Bool) → nat_lt 1000 (length (draft ∷ drafts)) ≡ b → IfOk (if b then wrong 0 kind.TooManyRules else rules_from [] (draft ∷ drafts)) (λ rules. is_config rules ≡ true)
+    go : (b : Bool) → nat_lt 1000 (length (draft ∷ drafts)) ≡ b → IfOk (if b then wrong 0 kind.TooManyRules else rules_from [] (draft ∷ drafts))
+        (λ rules. is_config rules ≡ true)
     go true e = tt
     go false e = some (rules_from [] (draft ∷ drafts)) refl (ltb-false 1000 (length (draft ∷ drafts)) e)

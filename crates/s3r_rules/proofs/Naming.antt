@@ -44,11 +44,13 @@ behind name first names e =
     let more : 1 + place_of name names ≡ suc (place_of name names) = omega arith in
     rw (e, more) (go (is_first name (drop (place_of name names) names)))
   where
-    go : (b : Bool) → (if b then first ∷ names else first ∷ insert names (place_of name names) name) ≡ first ∷ (if b then names else insert names (place_of name names) name)
+    go : (b : Bool) → (if b then first ∷ names else first ∷ insert names (place_of name names) name) ≡ first ∷
+        (if b then names else insert names (place_of name names) name)
     go true = refl
     go false = refl
 
-before : (name first : Name) (names : List Name) → is_key_below first name ≡ false → with_name name (first ∷ names) ≡ (if bytes_eq first name then first ∷ names else name ∷ first ∷ names)
+before : (name first : Name) (names : List Name) → is_key_below first name ≡ false
+    → with_name name (first ∷ names) ≡ (if bytes_eq first name then first ∷ names else name ∷ first ∷ names)
 before name first names e = rw e refl
 
 all-with : (test : Name → Bool) (name : Name) (names : List Name) → test name ≡ true → list_all test names ≡ true → list_all test (with_name name names) ≡ true
@@ -57,10 +59,14 @@ all-with test name (first ∷ names) one all =
     let parts = and_parts (test first) (list_all test names) all in
     go (all-with test name names one parts.1) (is_key_below first name) refl (bytes_eq first name) refl
   where
-    go : list_all test (with_name name names) ≡ true → (b : Bool) → is_key_below first name ≡ b → (c : Bool) → bytes_eq first name ≡ c → list_all test (with_name name (first ∷ names)) ≡ true
-    go rest true e c f = ap (list_all test) (behind name first names e) ∙ and_from (test first) (list_all test (with_name name names)) (and_parts (test first) (list_all test names) all).0 rest
-    go rest false e true f = ap (list_all test) (before name first names e) ∙ ap (λ b. list_all test (if b then first ∷ names else name ∷ first ∷ names)) f ∙ all
-    go rest false e false f = ap (list_all test) (before name first names e) ∙ ap (λ b. list_all test (if b then first ∷ names else name ∷ first ∷ names)) f ∙ and_from (test name) (list_all test (first ∷ names)) one all
+    go : list_all test (with_name name names) ≡ true → (b : Bool) → is_key_below first name ≡ b → (c : Bool) → bytes_eq first name ≡ c
+        → list_all test (with_name name (first ∷ names)) ≡ true
+    go rest true e c f = ap (list_all test) (behind name first names e)
+        ∙ and_from (test first) (list_all test (with_name name names)) (and_parts (test first) (list_all test names) all).0 rest
+    go rest false e true f = ap (list_all test) (before name first names e) ∙ ap (λ b. list_all test (if b then first ∷ names else name ∷ first ∷ names)) f
+        ∙ all
+    go rest false e false f = ap (list_all test) (before name first names e) ∙ ap (λ b. list_all test (if b then first ∷ names else name ∷ first ∷ names)) f
+        ∙ and_from (test name) (list_all test (first ∷ names)) one all
 
 below-all : (a b : Name) (names : List Name) → is_key_below a b ≡ true → list_all (is_key_below b) names ≡ true → list_all (is_key_below a) names ≡ true
 below-all a b [] low h = refl
@@ -77,7 +83,8 @@ rise-with name (first ∷ names) h =
     go : list_all (is_key_below first) names ≡ true → rise (with_name name names) ≡ true
         → (b : Bool) → is_key_below first name ≡ b → (c : Bool) → bytes_eq first name ≡ c → rise (with_name name (first ∷ names)) ≡ true
     go all rest true e c f =
-        ap rise (behind name first names e) ∙ and_from (list_all (is_key_below first) (with_name name names)) (rise (with_name name names)) (all-with (is_key_below first) name names e all) rest
+        ap rise (behind name first names e) ∙ and_from (list_all (is_key_below first) (with_name name names)) (rise (with_name name names))
+        (all-with (is_key_below first) name names e all) rest
     go all rest false e true f = ap rise (before name first names e) ∙ ap (λ b. rise (if b then first ∷ names else name ∷ first ∷ names)) f ∙ h
     go all rest false e false f =
         let low = other-below first name e f in
@@ -106,8 +113,10 @@ any-with test name [] = refl
 any-with test name (first ∷ names) = go (any-with test name names) (is_key_below first name) refl (bytes_eq first name) refl
   where
     go : list_any test (with_name name names) ≡ (test name || list_any test names)
-        → (b : Bool) → is_key_below first name ≡ b → (c : Bool) → bytes_eq first name ≡ c → list_any test (with_name name (first ∷ names)) ≡ (test name || list_any test (first ∷ names))
-    go rest true e c f = ap (list_any test) (behind name first names e) ∙ ap (λ b. test first || b) rest ∙ swapped (test first) (test name) (list_any test names)
+        → (b : Bool) → is_key_below first name ≡ b → (c : Bool) → bytes_eq first name ≡ c
+        → list_any test (with_name name (first ∷ names)) ≡ (test name || list_any test (first ∷ names))
+    go rest true e c f = ap (list_any test) (behind name first names e) ∙ ap (λ b. test first || b) rest
+        ∙ swapped (test first) (test name) (list_any test names)
     go rest false e true f =
         let same : first ≡ name = (bytes_eq-Decides first name).0 f in
         ap (list_any test) (before name first names e) ∙ ap (λ b. list_any test (if b then first ∷ names else name ∷ first ∷ names)) f
@@ -121,7 +130,8 @@ joined : (a b c : Bool) → (b || (a || c)) ≡ ((b || a) || c)
 joined a true c = refl
 joined a false c = refl
 
-any-from : (test : Name → Bool) (rules : List Rule) (names : List Name) → list_any test (names_from names rules) ≡ (list_any (to_rule test) rules || list_any test names)
+any-from : (test : Name → Bool) (rules : List Rule) (names : List Name)
+    → list_any test (names_from names rules) ≡ (list_any (to_rule test) rules || list_any test names)
 any-from test [] names = refl
 any-from test (rule ∷ rules) names =
     any-from test rules (with_name rule.bucket names)

@@ -39,13 +39,15 @@ module _ (to : List ℕ) (write : Write) (all : List Rule) where
       go e = grind (arith, nat_tests)
 
   bucket_is : (rule : Rule) → test rule ≡ true → rule.bucket ≡ to
-  bucket_is rule fit = (bytes_eq-Decides rule.bucket to).0 (and_parts rule.enabled (bytes_eq rule.bucket to) (and_parts (is_to to rule) (matches_write write rule) fit).0).1
+  bucket_is rule fit = (bytes_eq-Decides rule.bucket to).0 (and_parts rule.enabled (bytes_eq rule.bucket to)
+      (and_parts (is_to to rule) (matches_write write rule) fit).0).1
 
   same_number : (a b : ℕ) → a ≤ b → b ≤ a → (a == b) ≡ true
   same_number a b up down = grind (arith, nat_tests)
 
   -- two that decide have one priority to one bucket
-  clash : (first other : Rule) → decides first ≡ true → decides other ≡ true → within first.priority other ≡ true → within other.priority first ≡ true → has_priority other first ≡ true
+  clash : (first other : Rule) → decides first ≡ true → decides other ≡ true → within first.priority other ≡ true → within other.priority first ≡ true
+      → has_priority other first ≡ true
   clash first other one two up down =
       let fit = (and_parts (test first) (list_all (within first.priority) all) one).0 in
       let fit_other = (and_parts (test other) (list_all (within other.priority) all) two).0 in
@@ -54,7 +56,8 @@ module _ (to : List ℕ) (write : Write) (all : List Rule) where
       rw (bucket, number) refl
 
   -- beside a rule that decides no other does
-  none_beside : (first : Rule) (rules : List Rule) → decides first ≡ true → list_all (λ other. not (has_priority other first)) rules ≡ true → Part (first ∷ rules) → filter decides rules ≡ []
+  none_beside : (first : Rule) (rules : List Rule) → decides first ≡ true → list_all (λ other. not (has_priority other first)) rules ≡ true
+      → Part (first ∷ rules) → filter decides rules ≡ []
   none_beside first [] one apart part = refl
   none_beside first (other ∷ rules) one apart part =
       let parts = and_parts (not (has_priority other first)) (list_all (λ o. not (has_priority o first)) rules) apart in
@@ -62,14 +65,18 @@ module _ (to : List ℕ) (write : Write) (all : List Rule) where
       let rest : Part (first ∷ rules) = λ k h.
       let whole = and_parts (within k first) (within k other && list_all (within k) rules) (part k h) in
       both (within k first) (list_all (within k) rules) whole.0 (and_parts (within k other) (list_all (within k) rules) whole.1).1 in
-      let up = (and_parts (within first.priority other) (list_all (within first.priority) rules) (and_parts (within first.priority first) (within first.priority other && list_all (within first.priority) rules) (part first.priority all_first)).1).0 in
+      let up = (and_parts (within first.priority other) (list_all (within first.priority) rules)
+      (and_parts (within first.priority first) (within first.priority other && list_all (within first.priority) rules)
+      (part first.priority all_first)).1).0 in
       go (decides other) refl parts.0 up (none_beside first rules one parts.1 rest)
     where
-      go : (b : Bool) → decides other ≡ b → not (has_priority other first) ≡ true → within first.priority other ≡ true → filter decides rules ≡ [] → filter decides (other ∷ rules) ≡ []
+      go : (b : Bool) → decides other ≡ b → not (has_priority other first) ≡ true → within first.priority other ≡ true → filter decides rules ≡ []
+          → filter decides (other ∷ rules) ≡ []
       go false e clear up none = rw e none
       go true e clear up none =
           let all_other = (and_parts (test other) (list_all (within other.priority) all) e).1 in
-          let down = (and_parts (within other.priority first) (within other.priority other && list_all (within other.priority) rules) (part other.priority all_other)).0 in
+          let down = (and_parts (within other.priority first) (within other.priority other && list_all (within other.priority) rules)
+          (part other.priority all_other)).0 in
           absurd (not_both (has_priority other first) clear (clash first other one e up down))
 
   at_most_one : (rules : List Rule) → are_apart has_priority rules ≡ true → Part rules → length (filter decides rules) ≤ 1
@@ -82,10 +89,12 @@ module _ (to : List ℕ) (write : Write) (all : List Rule) where
       go : (b : Bool) → decides rule ≡ b → length (filter decides rules) ≤ 1 → length (filter decides (rule ∷ rules)) ≤ 1
       go false e few = rw e few
       go true e few =
-          let none = none_beside rule rules e (and_parts (list_all (λ other. not (has_priority other rule)) rules) (are_apart has_priority rules) apart).0 part in
+          let none = none_beside rule rules e (and_parts (list_all (λ other. not (has_priority other rule)) rules)
+          (are_apart has_priority rules) apart).0 part in
           rw (e, none) (omega arith)
 
 pub one_decides : OneDecides
 one_decides rules to write h =
-    let apart = (and_parts (nat_le 1 (length rules) && nat_le (length rules) 1000 && list_all is_rule rules && are_apart has_id rules) (are_apart has_priority rules) h).1 in
+    let apart = (and_parts (nat_le 1 (length rules) && nat_le (length rules) 1000 && list_all is_rule rules && are_apart has_id rules)
+    (are_apart has_priority rules) h).1 in
     at_most_one to write rules rules apart (λ k all. all)

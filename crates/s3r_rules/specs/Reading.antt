@@ -70,7 +70,18 @@ rule_from n earlier draft = do
   tags ← tags_from n draft.filter.tags
   bucket ← bucket_from n draft.destination.bucket
   class ← class_from n draft.destination.class
-  rule_beside n earlier (record { id = id; priority = priority; enabled = draft.enabled; prefix = prefix; tags = tags; markers = draft.markers; bucket = bucket; class = class; replica_modifications = draft.replica_modifications })
+  rule_beside n earlier (record {
+    id = id;
+    priority = priority;
+    enabled = draft.enabled;
+    prefix = prefix;
+    tags = tags;
+    markers = draft.markers;
+    bucket =
+        bucket;
+    class = class;
+    replica_modifications = draft.replica_modifications;
+  })
 
 abbrev pub rules_from : List Rule → List Draft → Result (List Rule) ConfigFault
 rules_from rules [] = Ok rules

@@ -1,11 +1,8 @@
 -- A configuration that is printed is read as this configuration.
-use Rattle.std.proofs.Common.{◌≡◌, ℕ, ◌+◌, ◌≤◌, Bool, true, false, not, ◌&&◌, nat_le, nat_lt, if◌then◌else◌, List, [], ◌∷◌, ◌++◌, map, length, Option, Some, None, Ok, String, Global, string_bytes, refl, sym, ap, ◌∙◌, arith, append_assoc}
-use Rattle.std.specs.List.{list_all, list_any}
-use Rattle.std.specs.Str.{chars}
+use Rattle.std.proofs.Common.{◌≡◌, ℕ, ◌≤◌, Bool, true, false, if◌then◌else◌, List, [], ◌∷◌, map, Option, Some, None, Ok, String, Global, string_bytes, refl, ap, ◌∙◌, arith}
+use Rattle.std.specs.List.{list_all}
 use Rattle.std.proofs.Math.Nat.{max-le}
-use Rattle.std.proofs.lemmas.List.{append-nil, length-map}
 use Rattle.std.proofs.lemmas.Bool.{and_parts}
-use Rattle.std.proofs.lemmas.Bool.Decides.{nat_tests}
 use Rattle.serde_json.specs.Data.{depth, items_depth}
 use Rattle.serde_json.specs.Read.{read, max_depth}
 use Rattle.serde_json.specs.View.{items_of}
@@ -21,17 +18,14 @@ use Rattle.s3r_json.specs.Members.{only_in}
 use Rattle.s3r_json.specs.Tags.{tag_list_in, tag_data, tag_list_data}
 use Rattle.s3r_json.proofs.Printed.{tag_back, items_back}
 use Rattle.s3r_json.proofs.Readings.{printed_value}
-use Rattle.s3r_rules.specs.declared.draft.Draft.{Draft}
-use Rattle.s3r_rules.specs.declared.draft.Filter.{Filter}
-use Rattle.s3r_rules.specs.declared.draft.Destination.{Destination}
 use Rattle.s3r_rules.specs.declared.rule.Rule.{Rule}
 use Rattle.s3r_rules.specs.Faults.{◌>>=◌, or_malformed}
-use Rattle.s3r_rules.specs.Rules.{is_empty, is_class, is_rule, has_id, has_priority, are_apart, is_config}
+use Rattle.s3r_rules.specs.Rules.{is_rule, is_config}
 use Rattle.s3r_rules_json.specs.Drafts.{set_of, filter_of, destination_of, draft_of, drafts_of}
 use Rattle.s3r_rules.specs.Reading.{config_from}
 use Rattle.s3r_rules_json.specs.Reading.{config_in, config_body}
 use Rattle.s3r_rules_json.specs.Printing.{destination_data, both_data, one_tag_data, filter_data, rule_data, config_data}
-use Rattle.s3r_rules.proofs.Drafted.{filter_for, destination_for, draft_for, Facts, facts, config_back}
+use Rattle.s3r_rules.proofs.Drafted.{filter_for, destination_for, draft_for, facts, config_back}
 
 -- ---- the form
 
@@ -47,13 +41,15 @@ both_back prefix tags h = rw (list_back tags, set_again tags h) refl
 one_back : (tag : Tag) → is_tag_set (tag ∷ []) ≡ true → filter_of (one_tag_data tag) ≡ Ok (record { prefix = []; tags = Some (tag ∷ []) })
 one_back tag h = rw (tag_back tag, set_again (tag ∷ []) h) refl
 
-filter_back : (prefix : List ℕ) (tags : List Tag) → is_tag_set tags ≡ true → filter_of (filter_data prefix tags) ≡ Ok (record { prefix = prefix; tags = Some tags })
+filter_back : (prefix : List ℕ) (tags : List Tag) → is_tag_set tags ≡ true
+    → filter_of (filter_data prefix tags) ≡ Ok (record { prefix = prefix; tags = Some tags })
 filter_back prefix [] h = refl
 filter_back [] (tag ∷ []) h = one_back tag h
 filter_back (byte ∷ bytes) (tag ∷ []) h = both_back (byte ∷ bytes) (tag ∷ []) h
 filter_back prefix (tag ∷ next ∷ tags) h = both_back prefix (tag ∷ next ∷ tags) h
 
-destination_back : (bucket : List ℕ) (class : Option (List ℕ)) → is_bucket_name bucket ≡ true → destination_of (destination_data bucket class) ≡ Ok (record { bucket = Some bucket; class = class })
+destination_back : (bucket : List ℕ) (class : Option (List ℕ)) → is_bucket_name bucket ≡ true
+    → destination_of (destination_data bucket class) ≡ Ok (record { bucket = Some bucket; class = class })
 destination_back bucket None h = rw (bucket-reads bucket (arn_text (arn.Bucket bucket)) h refl) refl
 destination_back bucket (Some class) h = rw (bucket-reads bucket (arn_text (arn.Bucket bucket)) h refl) refl
 
@@ -82,7 +78,8 @@ value_back rules h =
     let back = config_back rules h in
     ap (λ r. r >>= config_from) (drafts_back rules back.0) ∙ back.1
 
-pub text_back : (rules : List Rule) (text : String Global) → is_config rules ≡ true → read (string_bytes text) ≡ Some (config_data rules) → config_body (string_bytes text) ≡ Ok rules
+pub text_back : (rules : List Rule) (text : String Global) → is_config rules ≡ true → read (string_bytes text) ≡ Some (config_data rules)
+    → config_body (string_bytes text) ≡ Ok rules
 text_back rules text h was = ap (λ v. or_malformed v >>= config_in) (printed_value text (config_data rules) was) ∙ value_back rules h
 
 -- ---- the text
@@ -137,7 +134,8 @@ rule_flat : (rule : Rule) → depth (rule_data rule) ≤ 5
 unfolding rule_data
 rule_flat rule = go rule.replica_modifications refl (filter_flat rule.prefix rule.tags) (destination_flat rule.bucket rule.class)
   where
-    go : (m : Bool) → rule.replica_modifications ≡ m → depth (filter_data rule.prefix rule.tags) ≤ 4 → depth (destination_data rule.bucket rule.class) ≤ 1 → depth (rule_data rule) ≤ 5
+    go : (m : Bool) → rule.replica_modifications ≡ m → depth (filter_data rule.prefix rule.tags) ≤ 4 → depth (destination_data rule.bucket rule.class) ≤ 1
+        → depth (rule_data rule) ≤ 5
     go true e filter destination = rw e (omega arith)
     go false e filter destination = rw e (omega arith)
 

@@ -110,7 +110,8 @@ bucket_in (Some (arn.Object name key)) = None
 abbrev pub destination_of : Data → Result Destination ConfigFault
 destination_of value =
     if has_only (codes "Bucket" ∷ codes "StorageClass" ∷ codes "Account" ∷ codes "Metrics" ∷ []) value
-    then (or_malformed (text_in (codes "Bucket") value) >>= λ bucket. optional_text (codes "StorageClass") value >>= λ class. Ok (record { bucket = bucket_in (arn_of bucket); class = class }))
+    then (or_malformed (text_in (codes "Bucket") value) >>= λ bucket. optional_text (codes "StorageClass") value >>= λ class. Ok
+    (record { bucket = bucket_in (arn_of bucket); class = class }))
     else Err MalformedJson
 
 abbrev pub destination_at : Data → Result Destination ConfigFault
@@ -126,7 +127,8 @@ modifications_at value = modifications_if (get (codes "SourceSelectionCriteria")
 -- ---- a rule, and the body
 
 abbrev pub rule_names : List (List ℕ)
-rule_names = codes "ID" ∷ codes "Priority" ∷ codes "Status" ∷ codes "Filter" ∷ codes "DeleteMarkerReplication" ∷ codes "Destination" ∷ codes "SourceSelectionCriteria" ∷ codes "ExistingObjectReplication" ∷ []
+rule_names = codes "ID" ∷ codes "Priority" ∷ codes "Status" ∷ codes "Filter" ∷ codes "DeleteMarkerReplication" ∷ codes "Destination" ∷ codes
+    "SourceSelectionCriteria" ∷ codes "ExistingObjectReplication" ∷ []
 
 abbrev pub members_of : Data → Result Draft ConfigFault
 members_of value = do
@@ -137,7 +139,16 @@ members_of value = do
   id ← optional_text (codes "ID") value
   filter ← filter_at value
   destination ← destination_at value
-  Ok (record { id = id; priority = priority; enabled = enabled; filter = filter; markers = markers; destination = destination; replica_modifications = modifications })
+  Ok (record {
+    id = id;
+    priority = priority;
+    enabled = enabled;
+    filter = filter;
+    markers = markers;
+    destination = destination;
+    replica_modifications =
+        modifications;
+  })
 
 -- a rule as it is written, whose form alone was looked at
 unfoldable pub draft_of : Data → Result Draft ConfigFault

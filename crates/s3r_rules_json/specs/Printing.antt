@@ -23,7 +23,8 @@ abbrev pub prefix_data : List ℕ → Data
 prefix_data prefix = object (member (codes "Prefix") (string prefix) no_members)
 
 abbrev pub both_data : List ℕ → List Tag → Data
-both_data prefix tags = object (member (codes "And") (object (member (codes "Prefix") (string prefix) (member (codes "Tags") (tag_list_data tags) no_members))) no_members)
+both_data prefix tags = object (member (codes "And") (object (member (codes "Prefix") (string prefix)
+    (member (codes "Tags") (tag_list_data tags) no_members))) no_members)
 
 abbrev pub one_tag_data : Tag → Data
 one_tag_data tag = object (member (codes "Tag") (tag_data tag) no_members)
@@ -37,7 +38,8 @@ filter_data prefix (tag ∷ next ∷ tags) = both_data prefix (tag ∷ next ∷ 
 
 abbrev pub sources : Bool → Members → Members
 sources false members = members
-sources true members = member (codes "SourceSelectionCriteria") (object (member (codes "ReplicaModifications") (status_data (codes "Enabled")) no_members)) members
+sources true members = member (codes "SourceSelectionCriteria") (object (member (codes "ReplicaModifications") (status_data (codes "Enabled")) no_members))
+    members
 
 unfoldable pub rule_data : Rule → Data
 rule_data rule = object (

@@ -3,3 +3,4 @@ mod Passing
 mod Silent
 mod Telling
 mod Running
+mod Runs

@@ -5,10 +5,9 @@ use Rattle.std.proofs.lemmas.List.{append-nil, drop-take}
 use Rattle.s3r_world.specs.Image.{Image, Puts}
 use Rattle.s3r_world.specs.Outside.{Outside, KeepsVolumes}
 use Rattle.s3r_world.specs.Moments.{elapses_none, elapses_then, elapses_weaker}
-use Rattle.s3r_store.specs.Stands.{StandsFor}
 use Rattle.s3r_desk.specs.Events.{found, began, answered, Events}
-use Rattle.s3r_desk.specs.Progress.{Progress, Happens, IsWithin}
-use Rattle.s3r_desk.proofs.Knowing.{leads_then}
+use Rattle.s3r_desk.specs.Progress.{Advances, Progress, Happens, IsWithin}
+use Rattle.s3r_desk.proofs.Advancing.{advances_none, advances_answered, advances_then}
 use Rattle.s3r_service.specs.Passing.{output_of, Brings, IsFront, AtMoment, Passes}
 use Rattle.s3r_service.specs.Served.{IsSoundImage, IsSound, StaysSound}
 use Rattle.s3r_service.specs.Sends.{Sends}
@@ -20,15 +19,13 @@ output_then (began r c ∷ events) first = output_then events first
 output_then (answered text ∷ events) first = ap (λ (l : List ℕ). l ++ text) (output_then events first) ∙ append_assoc (output_of first) (output_of events) text
 
 pub brings_none : (n : ℕ) (c : Image) → Brings n [] c c
-brings_none n c = record { volume = λ r lt h stands. (h, stands, refl); output = sym (append-nil c.output) }
+brings_none n c = record { volume = λ r lt. advances_none n r (c.volume r); output = sym (append-nil c.output) }
 
 pub brings_then : (n : ℕ) (first second : Events) (a b d : Image) → Brings n first a b → Brings n second b d → Brings n (second ++ first) a d
 brings_then n first second a b d p q = record {
-  volume = λ r lt h stands.
-      let mid = p.volume r lt h stands in
-      let end = q.volume r lt mid.0 mid.1 in
-      (end.0, end.1, leads_then first second r h mid.0 end.0 mid.2 end.2);
-  output = q.output ∙ ap (λ (l : List ℕ). l ++ output_of second) p.output ∙ append_assoc a.output (output_of first) (output_of second) ∙ ap (λ (l : List ℕ). a.output ++ l) (sym (output_then second first));
+  volume = λ r lt. advances_then n first second r (a.volume r) (b.volume r) (d.volume r) (p.volume r lt) (q.volume r lt);
+  output = q.output ∙ ap (λ (l : List ℕ). l ++ output_of second) p.output ∙ append_assoc a.output (output_of first) (output_of second)
+      ∙ ap (λ (l : List ℕ). a.output ++ l) (sym (output_then second first));
 }
 
 front_then : (second later : Events) (front : List ℕ) → IsFront front later → IsFront front (second ++ later)
@@ -56,7 +53,8 @@ passes_then n first second a b d p q = record {
         next = w.next;
         reached = (from.0, from.1, brings_then n first (answered w.front ∷ w.earlier) from.0 w.reached.0 c from.2 w.reached.2);
       }));
-  images = λ c now. let here = q.images c now in let from = p.images here.0 here.1 in (from.0, from.1, brings_then n first second from.0 here.0 c from.2 here.2);
+  images = λ c now. let here = q.images c now in let from = p.images here.0 here.1 in
+      (from.0, from.1, brings_then n first second from.0 here.0 c from.2 here.2);
   as_read = brings_then n first second a.as_read b.as_read d.as_read p.as_read q.as_read;
 }
 
@@ -69,7 +67,15 @@ passes_none n a b keeps = record {
     parts = refl;
     front = [];
     next = inl refl;
-    reached = (c, was, record { volume = λ r lt h stands. (h, stands, refl); output = sym (append-nil c.output) });
+    reached = (
+      c,
+      was,
+      record {
+        volume = λ r lt. advances_answered n [] [] r (c.volume r) (c.volume r) (advances_none n r (c.volume r));
+        output =
+            sym (append-nil c.output);
+      },
+    );
   });
   images = λ c now. (c, keeps.images c now, brings_none n c);
   as_read = subst (λ (i : Image). Brings n [] a.as_read i) (sym keeps.as_read) (brings_none n a.as_read);
@@ -85,11 +91,15 @@ nil_front [] ys e = refl
 nil_front {A} (x ∷ xs) ys e = absurd cc
 
 brings_progress : (n : ℕ) (events : Events) (a b : Image) → output_of events ≡ [] → Progress n events a b → Brings n events a b
-brings_progress n events a b silent p = record { volume = p.volume; output = p.output ∙ sym (append-nil a.output) ∙ ap (λ (l : List ℕ). a.output ++ l) (sym silent) }
+brings_progress n events a b silent p = record {
+  volume = p.volume;
+  output =
+      p.output ∙ sym (append-nil a.output) ∙ ap (λ (l : List ℕ). a.output ++ l) (sym silent);
+}
 
 brings_front : (n : ℕ) (events : Events) (a b : Image) → output_of events ≡ [] → Progress n events a b → Brings n (answered [] ∷ events) a b
 brings_front n events a b silent p = record {
-  volume = p.volume;
+  volume = λ r lt. advances_answered n [] events r (a.volume r) (b.volume r) (p.volume r lt);
   output = p.output ∙ sym (append-nil a.output) ∙ ap (λ (l : List ℕ). a.output ++ l) (sym (append-nil (output_of events) ∙ silent));
 }
 
@@ -101,7 +111,12 @@ passes_happens n events a b silent p = record {
     parts = w.parts;
     front = [];
     next = inl refl;
-    reached = (w.reached.0, w.reached.1, brings_front n w.earlier w.reached.0 c (nil_front (output_of w.earlier) (output_of w.later) (sym (output_then w.later w.earlier) ∙ sym (ap output_of w.parts) ∙ silent)) w.reached.2);
+    reached = (
+      w.reached.0,
+      w.reached.1,
+      brings_front n w.earlier w.reached.0 c
+          (nil_front (output_of w.earlier) (output_of w.later) (sym (output_then w.later w.earlier) ∙ sym (ap output_of w.parts) ∙ silent)) w.reached.2,
+    );
   });
   images = λ c now. let from = p.images c now in (from.0, from.1, brings_progress n events from.0 c silent from.2);
   as_read = brings_progress n events a.as_read b.as_read silent p.as_read;
@@ -110,7 +125,11 @@ passes_happens n events a b silent p = record {
 -- ---- an answer was put out, or a front of it
 
 brings_puts : (n : ℕ) (bytes : List ℕ) (a b : Image) → Puts bytes a b → Brings n (answered bytes ∷ []) a b
-brings_puts n bytes a b put = record { volume = λ r lt h stands. (h, subst (λ (l : List ℕ). StandsFor n r h l) (sym (put.volumes r)) stands, refl); output = put.output }
+brings_puts n bytes a b put = record {
+  volume = λ r lt. advances_answered n bytes [] r (a.volume r) (b.volume r)
+      (subst (λ (l : List ℕ). Advances n [] r (a.volume r) l) (sym (put.volumes r)) (advances_none n r (a.volume r)));
+  output = put.output;
+}
 
 take_parts : (k count : ℕ) (l : List ℕ) → k ≤ count → take k l ++ drop k (take count l) ≡ take count l
 take_parts k count l le =
@@ -136,11 +155,12 @@ passes_sends n text count a b put = record {
 
 module _ (n : ℕ) (events : Events) (a b : Outside) (passes : Passes n events a b) (sound : IsSound n a) where
   brought : (events' : Events) (c d : Image) → IsSoundImage n c → Brings n events' c d → IsSoundImage n d
-  brought events' c d was brings r lt = let h = was r lt in let k = brings.volume r lt h.0 h.1 in (k.0, k.1)
+  brought events' c d was brings r lt = let h = was r lt in let k = (brings.volume r lt).leads h.0 h.1 in (k.0, k.1)
 
   pub stays_sound : StaysSound n a b
   stays_sound = record {
-    time = elapses_weaker a b (AtMoment n events a.images) (IsSoundImage n) passes.time (λ c w. brought (answered w.front ∷ w.earlier) w.reached.0 c (sound.images w.reached.0 w.reached.1) w.reached.2);
+    time = elapses_weaker a b (AtMoment n events a.images) (IsSoundImage n) passes.time
+        (λ c w. brought (answered w.front ∷ w.earlier) w.reached.0 c (sound.images w.reached.0 w.reached.1) w.reached.2);
     now = record {
       images = λ c now. let from = passes.images c now in brought events from.0 c (sound.images from.0 from.1) from.2;
       as_read = brought events a.as_read b.as_read sound.as_read passes.as_read;

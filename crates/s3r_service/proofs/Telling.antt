@@ -1,14 +1,13 @@
 -- One request, from its step to the last byte of its answer.
-use Rattle.std.proofs.Common.{◌≡◌, ◌⊎◌, ℕ, ◌≤◌, Bool, true, false, cond, eqb, List, [], ◌∷◌, ◌++◌, length, take, drop, Option, Some, None, Result, Ok, Err, IfOk, OnOk, Vec, refl, sym, ◌∙◌, ap, subst, inl, inr, ⊎_elim, arith}
-use Rattle.std.proofs.lemmas.Bool.{eqb-true}
+use Rattle.std.proofs.Common.{◌≡◌, ◌⊎◌, ℕ, Bool, true, false, cond, List, [], ◌∷◌, ◌++◌, length, take, drop, Option, Some, None, Result, Ok, Err, IfOk, OnOk, Vec, refl, sym, ◌∙◌, ap, subst, inl, inr, ⊎_elim, arith}
 use Rattle.std.specs.declared.alloc.Global.{Global}
 use Rattle.std.specs.declared.alloc.AllocError.{AllocError}
 use Rattle.std.proofs.lemmas.List.{append-nil, take-append-drop}
 use Rattle.s3r_world.specs.Image.{Image}
-use Rattle.s3r_world.specs.Outside.{Outside, Counts, NoneFalls, Rises, KeepsVolumes}
-use Rattle.s3r_world.specs.Moments.{keeps_then, rises_before, rises_after}
+use Rattle.s3r_world.specs.Outside.{Outside, Counts, NoneFalls, KeepsVolumes}
+use Rattle.s3r_world.specs.Moments.{keeps_then, falls_then, rises_before}
 use Rattle.s3r_journal.proofs.Elsewhere.{left_keeps}
-use Rattle.s3r_store.specs.declared.held.Held.{Held}
+use Rattle.s3r_store.specs.declared.loaded_region.LoadedRegion.{LoadedRegion}
 use Rattle.s3r_store.specs.declared.store.Store.{Store}
 use Rattle.s3r_desk.specs.declared.fault.DeskFault.{DeskFault}
 use Rattle.s3r_desk.specs.declared.fault.DeskFault.TheVariants as faults
@@ -33,7 +32,7 @@ use Rattle.s3r_service.specs.declared.stop.Stop.{Stop}
 use Rattle.s3r_service.specs.declared.stop.Stop.TheVariants as stop
 use Rattle.s3r_service.specs.Sends.{Sends}
 use Rattle.s3r_service.specs.Passing.{Passes}
-use Rattle.s3r_service.specs.Turns.{Turn, answer_to, IsStepOf, IsAnswered, fails_at, events_in}
+use Rattle.s3r_service.specs.Turns.{Outcome, Turn, answer_to, IsStepOf, IsCounted, IsAnswered, events_in}
 use Rattle.s3r_service.specs.Served.{stop_of, IsRefused, IsIncomplete}
 use Rattle.s3r_service.specs.Serving.{Says, Replies, AnswersOne, EndsOne, Serves}
 use Rattle.s3r_service.proofs.Fronts.{sends_none}
@@ -75,35 +74,45 @@ module _ (text : List ℕ) (count : ℕ) (a b : Outside) (put : Sends text count
 
 -- ---- a step, and its answer's text
 
-fails_none : (v a b : ℕ) → a ≤ b → Rises 0 a b
-fails_none v a b le = omega (arith, le)
+counted_by : (n : ℕ) (result : Result Answer DeskFault) (a b : Counts) → HasCause n result a b → IsCounted (Ok result) a b
+counted_by n (Ok x) a b cause = tt
+counted_by n (Err (faults.Volume u)) a b cause = cause.1
+counted_by n (Err (faults.Full u)) a b cause = tt
+counted_by n (Err (faults.Damaged u offset)) a b cause = tt
+counted_by n (Err faults.OutOfMemory) a b cause = tt
 
-fails_volume : (u v : ℕ) (a b : Counts) → NoneFalls a b → Rises 1 (a.volume u) (b.volume u) → (t : Bool) → eqb u v ≡ t → Rises (cond t 1 0) (a.volume v) (b.volume v)
-fails_volume u v a b falls rises true e = subst (λ (m : ℕ). Rises 1 (a.volume m) (b.volume m)) (eqb-true u v e) rises
-fails_volume u v a b falls rises false e = omega (arith, falls.volume v)
+-- no count has fallen since
+counted_before : (outcome : Outcome) (a b d : Counts) → NoneFalls b d → IsCounted outcome a b → IsCounted outcome a d
+counted_before (Ok (Ok x)) a b d falls counted = tt
+counted_before (Ok (Err (faults.Volume u))) a b d falls counted = rises_before 1 (a.volume u) (b.volume u) (d.volume u) counted (falls.volume u)
+counted_before (Ok (Err (faults.Full u))) a b d falls counted = tt
+counted_before (Ok (Err (faults.Damaged u offset))) a b d falls counted = tt
+counted_before (Ok (Err faults.OutOfMemory)) a b d falls counted = tt
+counted_before (Err problem) a b d falls counted = tt
 
-pub fails_by : (n v : ℕ) (result : Result Answer DeskFault) (a b : Counts) → NoneFalls a b → HasCause n result a b → Rises (fails_at v (Ok result)) (a.volume v) (b.volume v)
-fails_by n v (Ok x) a b falls cause = omega (arith, falls.volume v)
-fails_by n v (Err (faults.Volume u)) a b falls cause = fails_volume u v a b falls cause.1 (eqb u v) refl
-fails_by n v (Err (faults.Full u)) a b falls cause = omega (arith, falls.volume v)
-fails_by n v (Err (faults.Damaged u offset)) a b falls cause = omega (arith, falls.volume v)
-fails_by n v (Err faults.OutOfMemory) a b falls cause = omega (arith, falls.volume v)
+pub falls_none : (a : Counts) → NoneFalls a a
+falls_none a = record { volume = λ u. omega arith; input = omega arith; output = omega arith; door = omega arith }
 
-module _ (before : Events) (room : ℕ → ℕ) (raw : RawRequest) (result : Result (Vec ℕ Global) AllocError) (a b : List Store) (old new : Outside) (c d : Counts) (falls : NoneFalls c d) where
-  pub replies_step : (request : Request) (answer : Result Answer DeskFault) → request_of raw ≡ Ok request → Responds before request answer room a b old new → HasCause (length a) answer c d
+module _ (before : Events) (room : ℕ → ℕ) (raw : RawRequest) (result : Result (Vec ℕ Global) AllocError) (a b : List Store) (old new : Outside) (c d : Counts)
+    (falls : NoneFalls c d) where
+  pub replies_step : (request : Request) (answer : Result Answer DeskFault) → request_of raw ≡ Ok request → Responds before request answer room a b old new
+      → HasCause (length a) answer c d
       → IfOk result (λ text. text.items ≡ answer_to raw (Ok answer)) → Replies (length a) room before raw result b old new c d
   replies_step request answer is did cause reply = record {
     outcome = Ok answer;
     step = did.events;
     is = (request, is, did.turn, did.damage);
     reply = reply;
-    passes = passes_happens (length a) did.events old new (turn_silent (AsRead (length a) old) (length a) room before request answer did.events did.turn) did.happens;
+    passes = passes_happens (length a) did.events old new (turn_silent (AsRead (length a) old) (length a) room before request answer did.events did.turn)
+        did.happens;
     keeps = did.keeps;
     input = did.happens.input;
-    faults = λ v. fails_by (length a) v answer c d falls cause;
+    counted = counted_by (length a) answer c d cause;
+    counts = falls;
   }
 
-pub replies_problem : (before : Events) (room : ℕ → ℕ) (raw : RawRequest) (result : Result (Vec ℕ Global) AllocError) (a : List Store) (w : Outside) (c : Counts) (problem : Problem) → Fails problem (request_of raw) → Keeps before a w
+pub replies_problem : (before : Events) (room : ℕ → ℕ) (raw : RawRequest) (result : Result (Vec ℕ Global) AllocError) (a : List Store) (w : Outside)
+    (c : Counts) (problem : Problem) → Fails problem (request_of raw) → Keeps before a w
     → IfOk result (λ text. text.items ≡ answer_to raw (Err problem)) → Replies (length a) room before raw result a w w c c
 replies_problem before room raw result a w c problem fails keeps reply = record {
   outcome = Err problem;
@@ -113,20 +122,24 @@ replies_problem before room raw result a w c problem fails keeps reply = record 
   passes = passes_none (length a) w w (keeps_all w);
   keeps = keeps;
   input = record { input = refl; connections = refl };
-  faults = λ v. omega arith;
+  counted = tt;
+  counts = falls_none c;
 }
 
 -- ---- a step, answered
 
-held_answered : (n : ℕ) (text : List ℕ) (events : Events) (r : ℕ) (o : Option Held) (w : Outside) → IsHeld n events r o w → IsHeld n (answered text ∷ events) r o w
+held_answered : (n : ℕ) (text : List ℕ) (events : Events) (r : ℕ) (o : Option LoadedRegion) (w : Outside) → IsHeld n events r o w
+    → IsHeld n (answered text ∷ events) r o w
 held_answered n text events r None w is = is
 held_answered n text events r (Some held) w is = is
 
 pub keeps_answered : (text : List ℕ) (events : Events) (stores : List Store) (w : Outside) → Keeps events stores w → Keeps (answered text ∷ events) stores w
 keeps_answered text events stores w keeps r s get = held_answered s.regions text events r s.held w (keeps r s get)
 
-module _ (n : ℕ) (room : ℕ → ℕ) (before : Events) (raw : RawRequest) (reply : Result (Vec ℕ Global) AllocError) (stores : List Store) (old mid new : Outside) (a b d : Counts) (falls : NoneFalls b d) where
-  pub answers_one : (did : Replies n room before raw reply stores old mid a b) (result : Result (Unit {0}) Stop) → Says (answer_to raw did.outcome) result mid new → AnswersOne n room before raw result stores old new a d
+module _ (n : ℕ) (room : ℕ → ℕ) (before : Events) (raw : RawRequest) (reply : Result (Vec ℕ Global) AllocError) (stores : List Store) (old mid new : Outside)
+    (a b d : Counts) (falls : NoneFalls b d) where
+  pub answers_one : (did : Replies n room before raw reply stores old mid a b) (result : Result (Unit {0}) Stop)
+      → Says (answer_to raw did.outcome) result mid new → AnswersOne n room before raw result stores old new a d
   answers_one did result says = record {
     outcome = did.outcome;
     step = did.step;
@@ -139,15 +152,18 @@ module _ (n : ℕ) (room : ℕ → ℕ) (before : Events) (raw : RawRequest) (re
     passes = passes_then n did.step (answered says.sent ∷ []) old mid new did.passes (says.passes n);
     keeps = keeps_answered says.sent (did.step ++ before) stores new (keeps_left (did.step ++ before) stores mid new says.left did.keeps);
     input = keeps_then old mid new did.input says.input;
-    faults = λ v. rises_before (fails_at v did.outcome) (a.volume v) (b.volume v) (d.volume v) (did.faults v) (falls.volume v);
+    counted = counted_before did.outcome a b d falls did.counted;
+    counts = falls_then a b d did.counts falls;
   }
 
 -- ---- a request, taken and answered
 
-module _ (n : ℕ) (room room' : ℕ → ℕ) (before : Events) (raw : RawRequest) (stream text input : List ℕ) (r : Result (Unit {0}) Stop) (stores : List Store) (old mid new : Outside) (a b d : Counts)
-    (rooms : room' ≡ room) (falls : NoneFalls a b) (reads : KeepsVolumes old mid) (spells : SpellsRequest raw text) (is : stream ≡ text ++ (input ++ mid.input)) (did : AnswersOne n room' before raw r stores mid new b d) where
+module _ (n : ℕ) (room room' : ℕ → ℕ) (before : Events) (raw : RawRequest) (stream text input : List ℕ) (r : Result (Unit {0}) Stop) (stores : List Store)
+    (old mid new : Outside) (a b d : Counts)
+    (rooms : room' ≡ room) (falls : NoneFalls a b) (reads : KeepsVolumes old mid) (connections : mid.connections ≡ old.connections)
+    (spells : SpellsRequest raw text) (is : stream ≡ text ++ (input ++ mid.input)) (did : AnswersOne n room' before raw r stores mid new b d) where
   abbrev pub turn : Turn
-  turn = record { raw = raw; text = text; outcome = did.outcome; step = did.step; sent = did.sent }
+  turn = record { raw = raw; text = text; outcome = did.outcome; step = did.step; sent = did.sent; before = b; after = d }
 
   right : IsAnswered n room before old.as_read turn
   right = record {
@@ -156,23 +172,29 @@ module _ (n : ℕ) (room room' : ℕ → ℕ) (before : Events) (raw : RawReques
         (subst (λ (c : Image). IsStepOf n room' before c (request_of raw) did.outcome did.step) reads.as_read did.is);
     more = did.more;
     front = did.front;
+    counted = did.counted;
+    counts = did.counts;
   }
 
-  pub serves_turn : (result : Result (Option Ending) Stop) → EndsOne result (Some turn) [] (input ++ new.input) new.input → Serves n room before result stream (input ++ new.input) new.input stores old new a d
+  pub serves_turn : (result : Result (Option Ending) Stop) → EndsOne result (Some turn) [] (input ++ new.input) new.input
+      → Serves n room before result stream (input ++ new.input) new.input stores old new a d
   serves_turn result ends = record {
     turn = Some turn;
     closing = [];
     right = right;
     text = is ∙ ap (λ (l : List ℕ). text ++ (input ++ l)) (sym did.input.input);
-    passes = subst (λ (l : Events). Passes n l old new) (append-nil (events_in (Some turn))) (passes_then n [] (events_in (Some turn)) old mid new (passes_none n old mid reads) did.passes);
+    passes = subst (λ (l : Events). Passes n l old new) (append-nil (events_in (Some turn)))
+        (passes_then n [] (events_in (Some turn)) old mid new (passes_none n old mid reads) did.passes);
     keeps = did.keeps;
     ends = ends;
-    faults = λ v. rises_after (fails_at v did.outcome) (a.volume v) (b.volume v) (d.volume v) (falls.volume v) (did.faults v);
+    counted = (falls, falls_none d);
+    connections = did.input.connections ∙ connections;
   }
 
 -- nothing was taken
 module _ (n : ℕ) (room : ℕ → ℕ) (before : Events) (stream rest left : List ℕ) (stores : List Store) (old mid new : Outside) (a d : Counts)
-    (falls : NoneFalls a d) (reads : KeepsVolumes old mid) (same : stream ≡ rest) (keeps : Keeps before stores old) where
+    (falls : NoneFalls a d) (reads : KeepsVolumes old mid) (connections : mid.connections ≡ old.connections) (same : stream ≡ rest)
+    (keeps : Keeps before stores old) where
   at_mid : Keeps before stores mid
   at_mid = keeps_left before stores old mid (λ q. left_keeps q old mid reads) keeps
 
@@ -185,11 +207,13 @@ module _ (n : ℕ) (room : ℕ → ℕ) (before : Events) (stream rest left : Li
     passes = passes_none n old mid reads;
     keeps = at_mid;
     ends = ends;
-    faults = λ v. omega (arith, falls.volume v);
+    counted = falls;
+    connections = connections;
   }
 
   -- and the answer to what stands there put out
-  pub serves_closing : (result : Result (Option Ending) Stop) (text : List ℕ) (r : Result (Unit {0}) Stop) (says : Says text r mid new) → EndsOne result None (answered says.sent ∷ []) rest left → Serves n room before result stream rest left stores old new a d
+  pub serves_closing : (result : Result (Option Ending) Stop) (text : List ℕ) (r : Result (Unit {0}) Stop) (says : Says text r mid new)
+      → EndsOne result None (answered says.sent ∷ []) rest left → Serves n room before result stream rest left stores old new a d
   serves_closing result text r says ends = record {
     turn = None;
     closing = answered says.sent ∷ [];
@@ -198,7 +222,8 @@ module _ (n : ℕ) (room : ℕ → ℕ) (before : Events) (stream rest left : Li
     passes = passes_then n [] (answered says.sent ∷ []) old mid new (passes_none n old mid reads) (says.passes n);
     keeps = keeps_answered says.sent before stores new (keeps_left before stores mid new says.left at_mid);
     ends = ends;
-    faults = λ v. omega (arith, falls.volume v);
+    counted = falls;
+    connections = says.input.connections ∙ connections;
   }
 
 -- ---- how one request ends the run, or doesn't
@@ -211,14 +236,16 @@ module _ (t : Turn) (more rest left : List ℕ) (front : answer_to t.raw t.outco
   ends_answered true is o e = subst (λ (x : Option Ending). EndsOne (Ok x) (Some t) [] rest left) (sym e) (λ count lt. (refl, inr (lt, t, refl, all_sent, is)))
   ends_answered false is o e = subst (λ (x : Option Ending). EndsOne (Ok x) (Some t) [] rest left) (sym e) (refl, t, refl, (all_sent, is))
 
-pub ends_cut : (s : Stop) → (s ≡ stop.Output) ⊎ (s ≡ stop.OutOfMemory) → (t : Turn) → (s ≡ stop.OutOfMemory → t.sent ≡ []) → (rest left : List ℕ) → EndsOne (Err s) (Some t) [] rest left
+pub ends_cut : (s : Stop) → (s ≡ stop.Output) ⊎ (s ≡ stop.OutOfMemory) → (t : Turn) → (s ≡ stop.OutOfMemory → t.sent ≡ []) → (rest left : List ℕ)
+    → EndsOne (Err s) (Some t) [] rest left
 ends_cut s which t unsaid rest left = ⊎_elim
     (λ e. subst (λ (x : Stop). EndsOne (Err x) (Some t) [] rest left) (sym e) (λ count lt. (lt, inl (refl, refl))))
-    (λ e. subst (λ (x : Stop). EndsOne (Err x) (Some t) [] rest left) (sym e) (λ count lt. (omega (arith, lt), refl, unsaid e)))
+    (λ e. subst (λ (x : Stop). EndsOne (Err x) (Some t) [] rest left) (sym e) (λ count lt. (lt, refl, unsaid e)))
     which
 
 -- a refusal is answered by one text
-pub refused_by : (fault : HttpFault) (problem : Problem) (stream rest : List ℕ) (r : Result (Unit {0}) Stop) (a b : Outside) → problem_of fault ≡ Some problem → IsCause fault stream → (fault ≡ http.Input) ⊎ ((fault ≡ http.OutOfMemory) ⊎ BeginsNone stream) → stream ≡ rest
+pub refused_by : (fault : HttpFault) (problem : Problem) (stream rest : List ℕ) (r : Result (Unit {0}) Stop) (a b : Outside) → problem_of fault ≡ Some problem
+    → IsCause fault stream → (fault ≡ http.Input) ⊎ ((fault ≡ http.OutOfMemory) ⊎ BeginsNone stream) → stream ≡ rest
     → (says : Says (problem_text problem false true) r a b) → IsRefused rest (answered says.sent ∷ [])
 refused_by fault problem stream rest r a b named cause which same says = record {
   fault = fault;
@@ -235,22 +262,33 @@ refused_by fault problem stream rest r a b named cause which same says = record 
   closing_is = refl;
 }
 
-pub ends_refused : (fault : HttpFault) (problem : Problem) (stream rest left : List ℕ) (a b : Outside) → problem_of fault ≡ Some problem → IsCause fault stream → (fault ≡ http.Input) ⊎ ((fault ≡ http.OutOfMemory) ⊎ BeginsNone stream) → stream ≡ rest
+pub ends_refused : (fault : HttpFault) (problem : Problem) (stream rest left : List ℕ) (a b : Outside) → problem_of fault ≡ Some problem
+    → IsCause fault stream → (fault ≡ http.Input) ⊎ ((fault ≡ http.OutOfMemory) ⊎ BeginsNone stream) → stream ≡ rest
     → (says : Says (problem_text problem false true) (Ok tt) a b) → EndsOne (Ok (Some Refused)) None (answered says.sent ∷ []) rest left
 unfolding refused_by
-ends_refused fault problem stream rest left a b named cause which same says count lt = (lt, refl, refused_by fault problem stream rest (Ok tt) a b named cause which same says, says.whole)
+ends_refused fault problem stream rest left a b named cause which same says count lt =
+    (lt, refl, refused_by fault problem stream rest (Ok tt) a b named cause which same says, says.whole)
 
-pub ends_refusal_cut : (s : Stop) → (s ≡ stop.Output) ⊎ (s ≡ stop.OutOfMemory) → (text rest left : List ℕ) (a b : Outside) (says : Says text (Err s) a b) → IsRefused rest (answered says.sent ∷ []) → EndsOne (Err s) None (answered says.sent ∷ []) rest left
+-- one answer has one text
+sent_is : (a b : List ℕ) → answered a ∷ [] ≡ answered b ∷ [] → a ≡ b
+sent_is a b same = cc
+
+pub ends_refusal_cut : (s : Stop) → (s ≡ stop.Output) ⊎ (s ≡ stop.OutOfMemory) → (text rest left : List ℕ) (a b : Outside) (says : Says text (Err s) a b)
+    → IsRefused rest (answered says.sent ∷ []) → EndsOne (Err s) None (answered says.sent ∷ []) rest left
 ends_refusal_cut s which text rest left a b says refused = ⊎_elim
     (λ e. subst (λ (x : Stop). EndsOne (Err x) None (answered says.sent ∷ []) rest left) (sym e) (λ count lt. (lt, inr (refl, refused))))
-    (λ e. subst (λ (x : Stop). EndsOne (Err x) None (answered says.sent ∷ []) rest left) (sym e) (λ count lt. (omega (arith, lt), says.unsaid (ap (λ (x : Stop). Err x) e), tt)))
+    (λ e. subst (λ (x : Stop). EndsOne (Err x) None (answered says.sent ∷ []) rest left) (sym e)
+    (λ count lt. inr (lt, refused, sent_is refused.sent says.sent (sym refused.closing_is) ∙ says.unsaid (ap (λ (x : Stop). Err x) e))))
     which
 
 -- nothing is read on, where nothing is wrong with the bytes
-pub ends_unread : (fault : HttpFault) (s : Stop) (taken left : List ℕ) → problem_of fault ≡ None → s ≡ stop_of fault → (fault ≡ http.Input → IsIncomplete taken) → EndsOne (Err s) None [] (taken ++ left) left
+pub ends_unread : (fault : HttpFault) (s : Stop) (taken left : List ℕ) → problem_of fault ≡ None → s ≡ stop_of fault
+    → (fault ≡ http.Input → IsIncomplete taken) → EndsOne (Err s) None [] (taken ++ left) left
 ends_unread http.Input s taken left none is incomplete =
-    subst (λ (x : Stop). EndsOne (Err x) None [] (taken ++ left) left) (sym is) (λ count lt. (omega (arith, lt), refl, refl, λ few. (taken, refl, incomplete refl)))
-ends_unread http.OutOfMemory s taken left none is incomplete = subst (λ (x : Stop). EndsOne (Err x) None [] (taken ++ left) left) (sym is) (λ count lt. (omega (arith, lt), refl, tt))
+    subst (λ (x : Stop). EndsOne (Err x) None [] (taken ++ left) left) (sym is)
+    (λ count lt. (omega (arith, lt), refl, refl, λ few. (taken, refl, incomplete refl)))
+ends_unread http.OutOfMemory s taken left none is incomplete = subst (λ (x : Stop). EndsOne (Err x) None [] (taken ++ left) left) (sym is)
+    (λ count lt. inl (omega (arith, lt), refl))
 ends_unread http.BadHead s taken left none is incomplete = absurd cc
 ends_unread http.HeadTooLong s taken left none is incomplete = absurd cc
 ends_unread http.BadLength s taken left none is incomplete = absurd cc

@@ -4,3 +4,4 @@ pub mod Passing
 pub mod Turns
 pub mod Served
 pub mod Serving
+pub mod Laws

@@ -18,8 +18,8 @@ use Rattle.s3r_service.specs.declared.stop.Ending.{Ending}
 use Rattle.s3r_service.specs.declared.stop.Ending.TheVariants.{Over, Refused, Limit}
 use Rattle.s3r_service.specs.declared.stop.Stop.{Stop}
 use Rattle.s3r_service.specs.declared.stop.Stop.TheVariants.{Input, Output, OutOfMemory}
-use Rattle.s3r_service.specs.Passing.{output_of, Passes}
-use Rattle.s3r_service.specs.Turns.{Turn, answer_to, IsRight, events_of, input_of, AreTurns, failures, events_in, text_in, failures_in}
+use Rattle.s3r_service.specs.Passing.{Passes}
+use Rattle.s3r_service.specs.Turns.{Turn, answer_to, IsRight, events_of, input_of, AreTurns, AreCounted, failures, events_in, text_in, turns_with}
 
 abbrev pub status_of_ending : Ending → ℕ
 status_of_ending Over = 0
@@ -67,18 +67,24 @@ abbrev pub IsOver : ℕ → Option Turn → List ℕ → Type 0
 IsOver count final rest = ((count ≤ 65536) × (final ≡ None) × (rest ≡ []))
     ⊎ ((count < 65536) × (t : Turn) × (final ≡ Some t) × (t.sent ≡ answer_to t.raw t.outcome) × (t.raw.last ≡ true))
 
+-- Nothing is out of the last answer: that to the final request, or the one to a front that is refused.
+abbrev pub IsUnsaid : ℕ → Option Turn → Events → List ℕ → Type 0
+IsUnsaid count None closing rest = ((count ≤ 65536) × (closing ≡ [])) ⊎ ((count < 65536) × (r : IsRefused rest closing) × (r.sent ≡ []))
+IsUnsaid count (Some t) closing rest = (count < 65536) × (closing ≡ []) × (t.sent ≡ [])
+
 -- How it ended behind so many requests that went on, by its status: with what request, with what more put out, with
 -- what rest of the input, and with what left that wasn't taken.
 abbrev pub IsEnd : Result Ending Stop → ℕ → Option Turn → Events → List ℕ → List ℕ → Type 0
 IsEnd (Ok Over) count final closing rest left = (closing ≡ []) × IsOver count final rest
 IsEnd (Ok Refused) count final closing rest left = (count < 65536) × (final ≡ None) × (r : IsRefused rest closing) × (r.more ≡ [])
 IsEnd (Ok Limit) count final closing rest left = (count ≡ 65536) × (final ≡ None) × (closing ≡ []) × (rest ≢ [])
-IsEnd (Err Input) count final closing rest left = (count ≤ 65536) × (final ≡ None) × (closing ≡ []) × (count < 65536 → (taken : List ℕ) × (rest ≡ taken ++ left) × IsIncomplete taken)
+IsEnd (Err Input) count final closing rest left = (count ≤ 65536) × (final ≡ None) × (closing ≡ [])
+    × (count < 65536 → (taken : List ℕ) × (rest ≡ taken ++ left) × IsIncomplete taken)
 IsEnd (Err Output) count final closing rest left = (count < 65536) × ((IsSome final × (closing ≡ [])) ⊎ ((final ≡ None) × IsRefused rest closing))
-IsEnd (Err OutOfMemory) count final closing rest left = (count ≤ 65536) × (output_of closing ≡ []) × IfSome final (λ t. t.sent ≡ [])
+IsEnd (Err OutOfMemory) count final closing rest left = IsUnsaid count final closing rest
 
--- The requests of the input were answered in turn, up to the end of the run.
-pub record Served (n : ℕ) (room : ℕ → ℕ) (result : Result Ending Stop) (old new : Outside) (before after : Counts) : Type 0 where
+-- The requests of a stream of bytes were answered in turn, up to its end; so much of it was not taken.
+pub record Conversation (n : ℕ) (room : ℕ → ℕ) (result : Result Ending Stop) (stream left : List ℕ) (old new : Outside) (before after : Counts) : Type 0 where
   -- the requests that went on, the newest first, and the one behind them that didn't
   pub turns : List Turn
   pub final : Option Turn
@@ -86,11 +92,17 @@ pub record Served (n : ℕ) (room : ℕ → ℕ) (result : Result Ending Stop) (
   pub rest : List ℕ
   pub are_right : AreTurns n room old.as_read turns
   pub is_right : IfSome final (IsRight n room old.as_read (events_of turns))
-  pub input : old.input ≡ input_of turns ++ (text_in final ++ rest)
+  pub parts : stream ≡ input_of turns ++ (text_in final ++ rest)
   pub passes : Passes n ((closing ++ events_in final) ++ events_of turns) old new
-  pub ends : IsEnd result (length turns) final closing rest new.input
+  pub ends : IsEnd result (length turns) final closing rest left
+  pub counted : AreCounted before (turns_with final turns) after
   -- an answer that a volume failed has its fault, each its own
-  pub faults : (v : ℕ) → Rises (failures v turns + failures_in v final) (before.volume v) (after.volume v)
+  pub faults : (v : ℕ) → Rises (failures v (turns_with final turns)) (before.volume v) (after.volume v)
+
+-- The input was served, and no connection was taken.
+pub record Served (n : ℕ) (room : ℕ → ℕ) (result : Result Ending Stop) (old new : Outside) (before after : Counts) : Type 0 where
+  pub conversation : Conversation n room result old.input new.input old new before after
+  pub connections : new.connections ≡ old.connections
 
 -- each volume below n stands for a lawful history
 abbrev pub IsSoundImage : ℕ → Image → Type 0

@@ -1,6 +1,7 @@
 -- Requests, and what each came to.
 use Rattle.std.specs.Prelude.{◌≡◌, ℕ, ◌+◌, ◌==◌, false, List, [], ◌∷◌, ◌++◌, Option, Some, None, Result, Ok, Err, if◌then◌else◌}
 use Rattle.s3r_world.specs.Image.{Image}
+use Rattle.s3r_world.specs.Outside.{Counts, NoneFalls, Rises}
 use Rattle.s3r_store.specs.Stands.{StandsFor}
 use Rattle.s3r_desk.specs.declared.fault.DeskFault.{DeskFault}
 use Rattle.s3r_desk.specs.declared.fault.DeskFault.TheVariants as faults
@@ -20,13 +21,16 @@ use Rattle.s3r_service.specs.Passing.{Brings}
 abbrev pub Outcome : Type 0
 Outcome = Result (Result Answer DeskFault) Problem
 
--- A request and its text, its outcome, what happened to the regions, and what was put out of its answer.
+-- A request and its text, its outcome, what happened to the regions, what was put out of its answer, and the counts of
+-- faults at its start and its end.
 pub record Turn : Type 0 where
   pub raw : RawRequest
   pub text : List ℕ
   pub outcome : Outcome
   pub step : Events
   pub sent : List ℕ
+  pub before : Counts
+  pub after : Counts
 
 abbrev pub answer_to : RawRequest → Outcome → List ℕ
 answer_to raw (Ok result) = answer_text result (is_head raw) raw.last
@@ -38,12 +42,23 @@ IsStepOf n room before seen asked (Ok result) step =
     (request : Request) × (asked ≡ Ok request) × IsTurn (λ r h. StandsFor n r h (seen.volume r)) n room before request result step × IsDamage n seen result
 IsStepOf n room before seen asked (Err problem) step = Fails problem asked × (step ≡ [])
 
+-- an outcome that is a volume's fault comes only where that volume's count has risen
+abbrev pub IsCounted : Outcome → Counts → Counts → Type 0
+IsCounted (Ok (Ok answer)) before after = Unit {0}
+IsCounted (Ok (Err (faults.Volume v))) before after = Rises 1 (before.volume v) (after.volume v)
+IsCounted (Ok (Err (faults.Full v))) before after = Unit {0}
+IsCounted (Ok (Err (faults.Damaged v offset))) before after = Unit {0}
+IsCounted (Ok (Err faults.OutOfMemory)) before after = Unit {0}
+IsCounted (Err problem) before after = Unit {0}
+
 -- The turn is that of its request, behind these events.
 pub record IsAnswered (n : ℕ) (room : ℕ → ℕ) (before : Events) (seen : Image) (t : Turn) : Type 0 where
   pub spells : SpellsRequest t.raw t.text
   pub step : IsStepOf n room before seen (request_of t.raw) t.outcome t.step
   pub more : List ℕ
   pub front : answer_to t.raw t.outcome ≡ t.sent ++ more
+  pub counted : IsCounted t.outcome t.before t.after
+  pub counts : NoneFalls t.before t.after
 
 -- So it is, the volumes being what the events have brought since the start.
 pub record IsRight (n : ℕ) (room : ℕ → ℕ) (start : Image) (before : Events) (t : Turn) : Type 0 where
@@ -70,10 +85,19 @@ abbrev pub AreTurns : ℕ → (ℕ → ℕ) → Image → List Turn → Type 0
 AreTurns n room start [] = Unit {0}
 AreTurns n room start (t ∷ earlier) = IsRight n room start (events_of earlier) t × GoesOn t × AreTurns n room start earlier
 
+-- each begins behind the end of the one before it, from these counts to these
+abbrev pub AreCounted : Counts → List Turn → Counts → Type 0
+AreCounted start [] now = NoneFalls start now
+AreCounted start (t ∷ earlier) now = AreCounted start earlier t.before × NoneFalls t.after now
+
 -- the outcome is a fault of this volume
 abbrev pub fails_at : ℕ → Outcome → ℕ
+fails_at v (Ok (Ok answer)) = 0
 fails_at v (Ok (Err (faults.Volume u))) = if u == v then 1 else 0
-fails_at v outcome = 0
+fails_at v (Ok (Err (faults.Full u))) = 0
+fails_at v (Ok (Err (faults.Damaged u offset))) = 0
+fails_at v (Ok (Err faults.OutOfMemory)) = 0
+fails_at v (Err problem) = 0
 
 -- how many of them are
 abbrev pub failures : ℕ → List Turn → ℕ
@@ -90,6 +114,7 @@ abbrev pub text_in : Option Turn → List ℕ
 text_in None = []
 text_in (Some t) = t.text
 
-abbrev pub failures_in : ℕ → Option Turn → ℕ
-failures_in v None = 0
-failures_in v (Some t) = fails_at v t.outcome
+-- it comes behind these
+abbrev pub turns_with : Option Turn → List Turn → List Turn
+turns_with None turns = turns
+turns_with (Some t) turns = t ∷ turns

@@ -5,10 +5,11 @@ use Rattle.std.specs.Str.{bytes_eq}
 use Rattle.s3r_service.specs.declared.words.Words.{Words}
 use Rattle.s3r_service.specs.declared.words.Place.{Place}
 
--- the folder, and how many regions there are
+-- the folder, how many regions there are, and the port that is listened on, where one is
 pub record Meaning : Type 0 where
   pub folder : List ℕ
   pub regions : ℕ
+  pub port : Option ℕ
 
 -- one digit from 1 to 8
 abbrev pub regions_in : List ℕ → Option ℕ
@@ -16,14 +17,15 @@ regions_in (digit ∷ []) = if nat_lt 48 digit && nat_lt digit 57 then Some (dig
 regions_in _ = None
 
 abbrev pub words_in : List (List ℕ) → Option Meaning
-words_in (folder ∷ regions ∷ task ∷ []) = if bytes_eq task (codes "do") then option_map (λ n. record { folder = folder; regions = n }) (regions_in regions) else None
+words_in (folder ∷ regions ∷ task ∷ []) = if bytes_eq task (codes "do") then option_map (λ n. record { folder = folder; regions = n; port = None })
+    (regions_in regions) else None
 words_in _ = None
 
 abbrev pub words_seen : Words → Meaning
-words_seen words = record { folder = words.folder.now; regions = words.regions }
+words_seen words = record { folder = words.folder.now; regions = words.regions; port = None }
 
 abbrev pub place_seen : Place → Meaning
-place_seen place = record { folder = string_bytes place.folder; regions = place.regions }
+place_seen place = record { folder = string_bytes place.folder; regions = place.regions; port = place.port }
 
 -- They are words of the program, over so many volumes.
 abbrev pub AreMeant : List (List ℕ) → ℕ → Type 0

@@ -7,11 +7,13 @@ ghost use Rattle.s3r_world.specs.Outside.{KeepsShape, NoneFalls, Rises};
 ghost use Rattle.s3r_service.specs.Served.{Ran, IsSound, StaysSound, IsStatus};
 ghost use Rattle.s3r_service.specs.Words.{AreMeant};
 
+mod laws;
 mod sending;
 mod serve;
 mod stop;
 mod words;
 
+pub use laws::runs_compose;
 use s3r_world::World;
 use serve::serve;
 use std::alloc::Global;
@@ -33,7 +35,8 @@ pub fn s3r<W: World>(alloc: Global, words: &[String], world: &mut W) -> u8
         Ran result (W.shape world.old).volumes (W.shape world.old).room (W.outside world.old) (W.outside world.new) (W.faults world.old) (W.faults world.new) }
 
     // Volumes that stand for lawful histories do so after a crash at any moment.
-    ensures sound { IsTrue W.tells → AreMeant (map string_bytes words.now) ((W.shape world.old).volumes) → IsSound (W.shape world.old).volumes (W.outside world.old) →
+    ensures sound { IsTrue W.tells → AreMeant (map string_bytes words.now) ((W.shape world.old).volumes)
+        → IsSound (W.shape world.old).volumes (W.outside world.old) →
         StaysSound (W.shape world.old).volumes (W.outside world.old) (W.outside world.new) }
 
     // Each fault of the outside was counted.

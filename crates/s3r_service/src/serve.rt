@@ -11,6 +11,7 @@ use crate::stop::{Ending, Stop, stop_of};
 use s3r_api::{answer_bytes, framing_problem, is_head, problem_bytes, to_request};
 use s3r_desk::Desk;
 use s3r_http::{Buffer, RawRequest, has_more, read_request};
+use s3r_routes::Routes;
 use s3r_world::World;
 use std::alloc::{AllocError, Global};
 
@@ -35,6 +36,7 @@ fn say<W: World>(world: &mut W, reply: Result<Vec<u8>, AllocError>) -> Result<()
 fn reply_to<W: World>(
     alloc: Global,
     world: &mut W,
+    routes: &Routes,
     desk: &mut Desk,
     raw: &RawRequest,
 ) -> Result<Vec<u8>, AllocError>
@@ -51,7 +53,7 @@ fn reply_to<W: World>(
     ensures goes { W.goes world.old world.new }
     ensures shape { KeepsShape (W.shape world.old) (W.shape world.new) }
 {
-    match to_request(alloc, raw) {
+    match to_request(alloc, routes, raw) {
         Ok(request) => {
             let answer = desk.respond(alloc, world, request);
             answer_bytes(alloc, &answer, is_head(raw), raw.last)
@@ -64,6 +66,7 @@ fn reply_to<W: World>(
 fn answer_one<W: World>(
     alloc: Global,
     world: &mut W,
+    routes: &Routes,
     desk: &mut Desk,
     raw: &RawRequest,
 ) -> Result<(), Stop>
@@ -82,7 +85,7 @@ fn answer_one<W: World>(
     ensures goes { W.goes world.old world.new }
     ensures shape { KeepsShape (W.shape world.old) (W.shape world.new) }
 {
-    let reply = reply_to(alloc, world, desk, raw);
+    let reply = reply_to(alloc, world, routes, desk, raw);
     say(world, reply)
 }
 
@@ -97,6 +100,7 @@ fn ending_after(last: bool) -> Option<Ending>
 fn serve_one<W: World>(
     alloc: Global,
     world: &mut W,
+    routes: &Routes,
     buffer: &mut Buffer,
     desk: &mut Desk,
 ) -> Result<Option<Ending>, Stop>
@@ -117,7 +121,7 @@ fn serve_one<W: World>(
     match read_request(alloc, world, buffer) {
         Ok(None) => Ok(Some(Ending::Over)),
         Ok(Some(raw)) => {
-            answer_one(alloc, world, desk, &raw)?;
+            answer_one(alloc, world, routes, desk, &raw)?;
             Ok(ending_after(raw.last))
         }
         Err(fault) => match framing_problem(fault) {
@@ -133,6 +137,7 @@ fn serve_one<W: World>(
 // Whether the input goes on behind the last request.
 fn ending_behind<W: World>(world: &mut W, buffer: &mut Buffer) -> Result<Ending, Stop>
     ensures told { IsTrue W.tells → Limits result (buffer.old ++ (W.outside world.old).input) (W.outside world.new).input }
+    ensures connections { IsTrue W.tells → (W.outside world.new).connections ≡ (W.outside world.old).connections }
     ensures volumes { IsTrue W.tells → KeepsVolumes (W.outside world.old) (W.outside world.new) }
     ensures cause { IfErr result (λ stop. HasCause stop (W.faults world.old) (W.faults world.new)) }
     ensures counts { NoneFalls (W.faults world.old) (W.faults world.new) }
@@ -150,16 +155,18 @@ fn ending_behind<W: World>(world: &mut W, buffer: &mut Buffer) -> Result<Ending,
 pub fn serve<W: World>(alloc: Global, world: &mut W, regions: u32) -> Result<Ending, Stop>
     requires volumes { regions ≡ (W.shape world.old).volumes }
     requires few { regions ≤ 8 }
-    ensures served { IsTrue W.tells → Served regions (W.shape world.old).room result (W.outside world.old) (W.outside world.new) (W.faults world.old) (W.faults world.new) }
+    ensures served { IsTrue W.tells → Served regions (W.shape world.old).room result (W.outside world.old) (W.outside world.new) (W.faults world.old)
+        (W.faults world.new) }
     ensures cause { IfErr result (λ stop. HasCause stop (W.faults world.old) (W.faults world.new)) }
     ensures counts { NoneFalls (W.faults world.old) (W.faults world.new) }
     ensures goes { W.goes world.old world.new }
     ensures shape { KeepsShape (W.shape world.old) (W.shape world.new) }
 {
     let mut buffer = Buffer::new(alloc);
+    let routes = Routes::new(alloc)?;
     let mut desk = Desk::new(alloc, regions)?;
     for _ in 0..REQUESTS {
-        if let Some(ending) = serve_one(alloc, world, &mut buffer, &mut desk)? {
+        if let Some(ending) = serve_one(alloc, world, &routes, &mut buffer, &mut desk)? {
             return Ok(ending);
         }
     }

@@ -5,15 +5,15 @@ use std::alloc::{AllocError, Global};
 
 /// Which calls are to fail: so many of a side's next ones, the one of a number, and all after a number.
 #[derive(Drop)]
-pub struct Plan {
+pub struct PlannedFaults {
     next: Vec<(Side, u32)>,
     pub at: Option<u64>,
     pub after: Option<u64>,
 }
 
-impl Plan {
-    pub fn new(alloc: Global) -> Plan {
-        Plan {
+impl PlannedFaults {
+    pub fn new(alloc: Global) -> PlannedFaults {
+        PlannedFaults {
             next: Vec::new(alloc),
             at: None,
             after: None,

@@ -3,7 +3,7 @@ ghost use Rattle.std.specs.Prelude.{◌≡◌, ◌<◌, ◌≤◌, vec_len};
 
 use crate::asking::Input;
 use crate::fault::Fault;
-use crate::plan::Plan;
+use crate::plan::PlannedFaults;
 use crate::script::{Asking, Times};
 use s3r_world::{MemoryWorld, World};
 use std::alloc::{AllocError, Global};
@@ -20,7 +20,7 @@ pub struct Setup {
     room: u64,
     volumes: Vec<Vec<u8>>,
     piece: usize,
-    pub plan: Plan,
+    pub plan: PlannedFaults,
     input: Input,
     // the input of the openings, and whether what is asked goes there
     opening: Input,
@@ -102,7 +102,7 @@ impl Setup {
             room,
             volumes,
             piece: usize::MAX,
-            plan: Plan::new(alloc),
+            plan: PlannedFaults::new(alloc),
             input: Input::new(alloc),
             opening: Input::new(alloc),
             opens: false,

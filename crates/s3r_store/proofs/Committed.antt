@@ -8,23 +8,24 @@ use Rattle.s3r_record.specs.Spelling.{spelling, frame, IsCommand}
 use Rattle.s3r_journal.specs.Volume.{header, records, StandsTo, Stands, IsEmptyVolume}
 use Rattle.s3r_history.specs.Words.{History}
 use Rattle.s3r_history.specs.Accepts.{refusal, IsLawful}
-use Rattle.s3r_store.specs.Stands.{spelled, StandsFor}
+use Rattle.s3r_store.specs.Stands.{spelled, StandsFor, KeepsFormat}
+use Rattle.s3r_store.proofs.Formats.{format_none, format_empty, format_made, format_kept}
 use Rattle.s3r_store.specs.Writes.{DoesWrite, MayWrite, Written}
 use Rattle.s3r_store.specs.Knows.{IsAtEnd, Knows}
 use Rattle.s3r_journal.specs.declared.writing.AppendFault.{AppendFault}
 use Rattle.s3r_journal.specs.declared.writing.AppendFault.TheVariants as append
-use Rattle.s3r_store.specs.declared.held.Held.{Held}
+use Rattle.s3r_store.specs.declared.loaded_region.LoadedRegion.{LoadedRegion}
 use Rattle.s3r_store.specs.Faults.{fault_of_append}
 use Rattle.s3r_store.specs.Commits.{IsEither, IsWith, Commits, HasWritten, length_with}
 
 -- bytes that stand for these spellings up to this end, or are empty
 abbrev pub AtEnd : ℕ → Option ℕ → List (List ℕ) → List ℕ → Type 0
 AtEnd v None hs bytes = (hs ≡ []) × IsEmptyVolume bytes
-AtEnd v (Some end) hs bytes = StandsTo v hs end bytes
+AtEnd v (Some end) hs bytes = (format : ℕ) × StandsTo v format hs end bytes
 
 pub at_end_of : (v : ℕ) (end : Option ℕ) (hs : List (List ℕ)) (w : Outside) → IsAtEnd v end hs w → AtEnd v end hs (w.as_read.volume v)
 at_end_of v None hs w at = (at.0, at.1.empty)
-at_end_of v (Some end) hs w at = at.1
+at_end_of v (Some end) hs w at = (at.1, at.2)
 
 pub stable_at : (v : ℕ) (end : Option ℕ) (hs : List (List ℕ)) (w : Outside) → IsAtEnd v end hs w → (c : Image) → w.images c → c.volume v ≡ w.as_read.volume v
 stable_at v None hs w at = at.1.stable
@@ -36,36 +37,61 @@ image_at v end hs w at c now = subst (AtEnd v end hs) (sym (stable_at v end hs w
 
 pub stands_at : (v : ℕ) (end : Option ℕ) (hs : List (List ℕ)) (bytes : List ℕ) → AtEnd v end hs bytes → Stands v hs bytes
 stands_at v None hs bytes at = inl (at.1, at.0)
-stands_at v (Some end) hs bytes at = inr (end, at)
+stands_at v (Some end) hs bytes at = inr (end, at.0, at.1)
 
 either : (v : ℕ) (end : Option ℕ) (hs : List (List ℕ)) (s x y : List ℕ) → AtEnd v end hs x → MayWrite v end s x y → Stands v hs y ⊎ Stands v (hs ++ s ∷ []) y
 either v None hs s x y at may = ⊎_elim
     (λ empty. inl (inl (empty, at.0)))
     (λ made. ⊎_elim
-    (λ none. inl (inr (16, subst (λ (k : List (List ℕ)). StandsTo v k 16 y) (sym at.0) none)))
-    (λ one. inr (inr (16 + length s + 5, subst (λ (k : List (List ℕ)). StandsTo v (k ++ s ∷ []) (16 + length s + 5) y) (sym at.0) one)))
+    (λ none. inl (inr (16, 1, subst (λ (k : List (List ℕ)). StandsTo v 1 k 16 y) (sym at.0) none)))
+    (λ one. inr (inr (16 + length s + 5, 1, subst (λ (k : List (List ℕ)). StandsTo v 1 (k ++ s ∷ []) (16 + length s + 5) y) (sym at.0) one)))
     made)
     (may at.1)
-either v (Some end) hs s x y at may = ⊎_elim (λ still. inl (inr (end, still))) (λ with. inr (inr (end + length s + 5, with))) (may v hs at)
+either v (Some end) hs s x y at may =
+    ⊎_elim (λ still. inl (inr (end, at.0, still))) (λ with. inr (inr (end + length s + 5, at.0, with))) (may v at.0 hs at.1)
 
 -- where the volume ends then
-with_record : (v : ℕ) (end : Option ℕ) (hs : List (List ℕ)) (s x y : List ℕ) → AtEnd v end hs x → DoesWrite v end s x y → StandsTo v (hs ++ s ∷ []) (unwrap_or end 16 + length s + 5) y
-with_record v None hs s x y at does = subst (λ (k : List (List ℕ)). StandsTo v (k ++ s ∷ []) (16 + length s + 5) y) (sym at.0) (does at.1)
-with_record v (Some end) hs s x y at does = does v hs at
+with_record : (v : ℕ) (end : Option ℕ) (hs : List (List ℕ)) (s x y : List ℕ) → AtEnd v end hs x → DoesWrite v end s x y →
+    (format : ℕ) × StandsTo v format (hs ++ s ∷ []) (unwrap_or end 16 + length s + 5) y
+with_record v None hs s x y at does = (1, subst (λ (k : List (List ℕ)). StandsTo v 1 (k ++ s ∷ []) (16 + length s + 5) y) (sym at.0) (does at.1))
+with_record v (Some end) hs s x y at does = (at.0, does v at.0 hs at.1)
+
+-- and its format
+either_format : (v : ℕ) (end : Option ℕ) (hs : List (List ℕ)) (s x y : List ℕ) → AtEnd v end hs x → MayWrite v end s x y → KeepsFormat x y
+either_format v None hs s x y at may =
+    ⊎_elim (λ empty. format_empty x y at.1 empty)
+    (λ made. ⊎_elim (λ none. format_made v 16 [] x y at.1 none) (λ one. format_made v _ _ x y at.1 one) made)
+    (may at.1)
+either_format v (Some end) hs s x y at may =
+    ⊎_elim (λ still. format_kept v at.0 end end hs hs x y at.1 still) (λ with. format_kept v at.0 end _ hs _ x y at.1 with) (may v at.0 hs at.1)
+
+with_format : (v : ℕ) (end : Option ℕ) (hs : List (List ℕ)) (s x y : List ℕ) → AtEnd v end hs x → DoesWrite v end s x y → KeepsFormat x y
+with_format v None hs s x y at does = format_made v _ _ x y at.1 (does at.1)
+with_format v (Some end) hs s x y at does = format_kept v at.0 end _ hs _ x y at.1 (does v at.0 hs at.1)
 
 -- the place of the next record
 pub end_is : (v : ℕ) (end : Option ℕ) (hs : List (List ℕ)) (w : Outside) → IsAtEnd v end hs w → length (header v 1 ++ records hs) ≡ unwrap_or end 16
 end_is v None hs w at = ap (λ (k : List (List ℕ)). length (header v 1 ++ records k)) at.0
-end_is v (Some end) hs w at = at.1.place
+end_is v (Some end) hs w at = at.2.place
 
-module _ (n v : ℕ) (end : Option ℕ) (h : History) (c : Command) (old new : Outside) (at : IsAtEnd v end (spelled h) old) (lawful : IsLawful n v h) (fits : IsCommand c) (accepted : refusal n v h c ≡ None) where
+module _ (n v : ℕ) (end : Option ℕ) (h : History) (c : Command) (old new : Outside) (at : IsAtEnd v end (spelled h) old) (lawful : IsLawful n v h)
+    (fits : IsCommand c) (accepted : refusal n v h c ≡ None) where
   on_either : (x y : Image) → AtEnd v end (spelled h) (x.volume v) → OnVolume v (MayWrite v end (spelling c)) x y → OnVolume v (IsEither n v h c) x y
   on_either x y was on = on_weaker v (MayWrite v end (spelling c)) (IsEither n v h c) x y
-      (λ may. ⊎_elim (λ still. inl (record { stands = still; lawful = lawful })) (λ with. inr (record { stands = with; lawful = (fits, accepted, lawful) })) (either v end (spelled h) (spelling c) (x.volume v) (y.volume v) was may)) on
+      (λ may. record {
+        stands = ⊎_elim (λ still. inl (record { stands = still; lawful = lawful })) (λ with. inr (record { stands = with; lawful = (fits, accepted, lawful) }))
+            (either v end (spelled h) (spelling c) (x.volume v) (y.volume v) was may);
+        format = either_format v end (spelled h) (spelling c) (x.volume v) (y.volume v) was may;
+      }) on
 
   on_with : (x y : Image) → AtEnd v end (spelled h) (x.volume v) → OnVolume v (DoesWrite v end (spelling c)) x y → OnVolume v (IsWith n v h c) x y
   on_with x y was on = on_weaker v (DoesWrite v end (spelling c)) (IsWith n v h c) x y
-      (λ does. record { stands = inr (unwrap_or end 16 + length (spelling c) + 5, with_record v end (spelled h) (spelling c) (x.volume v) (y.volume v) was does); lawful = (fits, accepted, lawful) }) on
+      (λ does.
+      let now = with_record v end (spelled h) (spelling c) (x.volume v) (y.volume v) was does in
+      record {
+        stands = record { stands = inr (unwrap_or end 16 + length (spelling c) + 5, now.0, now.1); lawful = (fits, accepted, lawful) };
+        format = with_format v end (spelled h) (spelling c) (x.volume v) (y.volume v) was does;
+      }) on
 
   pub commits : (ok : Bool) → Written v end (spelling c) ok old new → Commits n v h c ok old new
   commits ok did = record {
@@ -79,14 +105,25 @@ module _ (n v : ℕ) (end : Option ℕ) (h : History) (c : Command) (old new : O
   }
 
   pub end_after : Written v end (spelling c) true old new → IsAtEnd v (Some (unwrap_or end 16 + length (spelling c) + 5)) (spelled (c ∷ h)) new
-  end_after did = (did.ready refl, with_record v end (spelled h) (spelling c) (old.as_read.volume v) (new.as_read.volume v) (at_end_of v end (spelled h) old at) (did.read refl).here)
+  end_after did =
+      let was = at_end_of v end (spelled h) old at in
+      let now = with_record v end (spelled h) (spelling c) (old.as_read.volume v) (new.as_read.volume v) was (did.read refl).here in
+      (did.ready refl, now.0, now.1)
+
+still_either : (n v : ℕ) (end : Option ℕ) (h : History) (c : Command) (x : List ℕ) → AtEnd v end (spelled h) x → IsLawful n v h → IsEither n v h c x x
+still_either n v end h c x at lawful = record { stands = inl (record { stands = stands_at v end (spelled h) x at; lawful = lawful }); format = format_none x }
 
 -- nothing was done to a volume that stands for the history
-pub commits_nothing : (n v : ℕ) (end : Option ℕ) (h : History) (c : Command) (w : Outside) → IsAtEnd v end (spelled h) w → IsLawful n v h → Commits n v h c false w w
+pub commits_nothing : (n v : ℕ) (end : Option ℕ) (h : History) (c : Command) (w : Outside) → IsAtEnd v end (spelled h) w → IsLawful n v h
+    → Commits n v h c false w w
 commits_nothing n v end h c w at lawful = record {
   time = elapses_none w (Reached (OnVolume v (IsEither n v h c)) w.images);
-  images = λ x now. (x, now, record { here = inl (record { stands = stands_at v end (spelled h) (x.volume v) (image_at v end (spelled h) w at x now); lawful = lawful }); elsewhere = λ u ne. refl; output = refl });
-  as_read = record { here = inl (record { stands = stands_at v end (spelled h) (w.as_read.volume v) (at_end_of v end (spelled h) w at); lawful = lawful }); elsewhere = λ u ne. refl; output = refl };
+  images = λ x now. (
+    x,
+    now,
+    record { here = still_either n v end h c (x.volume v) (image_at v end (spelled h) w at x now) lawful; elsewhere = λ u ne. refl; output = refl },
+  );
+  as_read = record { here = still_either n v end h c (w.as_read.volume v) (at_end_of v end (spelled h) w at) lawful; elsewhere = λ u ne. refl; output = refl };
   done = λ t. cc;
   read = λ t. cc;
   input = record { input = refl; connections = refl };
@@ -97,7 +134,8 @@ pub in_doubt : (n v : ℕ) (h : History) (c : Command) (old new : Outside) → C
 in_doubt n v h c old new did = record { time = did.time; images = did.images; as_read = did.as_read; done = λ t. cc; read = λ t. cc; input = did.input }
 
 -- so many bytes the volume would have with the command
-pub length_is : (v : ℕ) (end : Option ℕ) (h : History) (c : Command) (w : Outside) (bytes : List ℕ) → IsAtEnd v end (spelled h) w → bytes ≡ frame (spelling c) → length_with v h c ≡ unwrap_or end 16 + 1 + length bytes
+pub length_is : (v : ℕ) (end : Option ℕ) (h : History) (c : Command) (w : Outside) (bytes : List ℕ) → IsAtEnd v end (spelled h) w → bytes ≡ frame (spelling c)
+    → length_with v h c ≡ unwrap_or end 16 + 1 + length bytes
 length_is v end h c w bytes at is = omega (arith, end_is v end (spelled h) w at, ap length is)
 
 -- a frame that wasn't written
@@ -109,8 +147,12 @@ pub commit_failed : (n v : ℕ) (h : History) (c : Command) (room : ℕ) (old ne
     → Commits n v h c false old new
     → HasWritten n v h c (Err (fault_of_append e)) room old new
 commit_failed n v h c room old new (append.Volume u) full accepted why passes fits did = (accepted, fits (⊎_elim (λ is. absurd cc) (λ is. is.0) why), did)
-commit_failed n v h c room old new (append.VolumeFull u) full accepted why passes fits did = (accepted, passes (⊎_elim (λ is. is) (λ is. let no : append.VolumeFull u ≡ append.Volume v = is.0 in absurd cc) why))
+commit_failed n v h c room old new (append.VolumeFull u) full accepted why passes fits did =
+    (accepted, passes (⊎_elim (λ is. is) (λ is. let no : append.VolumeFull u ≡ append.Volume v = is.0 in absurd cc) why))
 
 -- what a store knows of its volume's bytes
-pub stands_for : (n v : ℕ) (held : Held) (h : History) (w : Outside) → Knows n v held h w → StandsFor n v h (w.as_read.volume v)
-stands_for n v held h w knows = record { stands = stands_at v held.end (spelled h) (w.as_read.volume v) (at_end_of v held.end (spelled h) w knows.volume); lawful = knows.lawful }
+pub stands_for : (n v : ℕ) (held : LoadedRegion) (h : History) (w : Outside) → Knows n v held h w → StandsFor n v h (w.as_read.volume v)
+stands_for n v held h w knows = record {
+  stands = stands_at v held.end (spelled h) (w.as_read.volume v) (at_end_of v held.end (spelled h) w knows.volume);
+  lawful = knows.lawful;
+}

@@ -27,12 +27,21 @@ module _ (n v from : ℕ) (bytes : List ℕ) (h : History) (lawful : IsLawful n 
   scan_damage scan.OutOfMemory answer reads = tt
 
   -- the next record is of no command that is accepted
-  pub command_damage : (A : Type 0) (s t : List ℕ) (next : ℕ) (old new : Contents) (e : StoreFault) → t ≡ s → finding v from bytes ≡ one_record s next → Front v (spelled h ++ s ∷ []) next bytes → IsAfter old h → old.regions ≡ n → old.region ≡ v → TakesIn {A = A} v from t (Err e) old new → IsDamage n v bytes e
+  pub command_damage : (A : Type 0) (s t : List ℕ) (next : ℕ) (old new : Contents) (e : StoreFault) → t ≡ s → finding v from bytes ≡ one_record s next
+      → Front v (spelled h ++ s ∷ []) next bytes → IsAfter old h → old.regions ≡ n → old.region ≡ v → TakesIn {A = A} v from t (Err e) old new
+      → IsDamage n v bytes e
   command_damage A s t next old new (faults.Refused f) same found front after regions region takes = absurd takes
   command_damage A s t next old new (faults.Full u) same found front after regions region takes = absurd takes
   command_damage A s t next old new (faults.Volume u) same found front after regions region takes = absurd takes
   command_damage A s t next old new (faults.Damaged u offset) same found front after regions region takes = (
-    record { h = h; at = from; lawful = lawful; read = read; wrong = subst (IsWrong n v h from offset) (sym found) (takes.1, λ c fits is accepted. takes.2 h after c fits (same ∙ is) (accepted_as _ _ _ _ h c (sym regions) (sym region) accepted)) },
+    record {
+      h = h;
+      at = from;
+      lawful = lawful;
+      read = read;
+      wrong = subst (IsWrong n v h from offset) (sym found)
+          (takes.1, λ c fits is accepted. takes.2 h after c fits (same ∙ is) (accepted_as _ _ _ _ h c (sym regions) (sym region) accepted));
+    },
     λ k stands.
         let rest = front_begins v bytes (spelled h ++ s ∷ []) (spelled k) next front stands.stands in
         let c = next_command n v k h s rest.0 stands.lawful lawful rest.1 in

@@ -45,11 +45,13 @@ spelled_one n r (c ∷ h) (d ∷ k) a b e =
     λ i. last i ∷ front i
 
 -- behind a history that begins another comes a command that it accepts
-pub next_command : (n r : ℕ) (k h : History) (s : List ℕ) (ss : List (List ℕ)) → IsLawful n r k → IsLawful n r h → spelled k ≡ (spelled h ++ s ∷ []) ++ ss → (c : Command) × IsCommand c × (refusal n r h c ≡ None) × (s ≡ spelling c)
+pub next_command : (n r : ℕ) (k h : History) (s : List ℕ) (ss : List (List ℕ)) → IsLawful n r k → IsLawful n r h → spelled k ≡ (spelled h ++ s ∷ []) ++ ss
+    → (c : Command) × IsCommand c × (refusal n r h c ≡ None) × (s ≡ spelling c)
 next_command n r [] h s ss a b e = absurd (omega (arith, ap length e, length-append (spelled h ++ s ∷ []) ss, length-append (spelled h) (s ∷ [])))
 next_command n r (c ∷ k) h s ss a b e = ⊎_elim
     (λ none.
-    let same : spelled k ++ spelling c ∷ [] ≡ spelled h ++ s ∷ [] = e ∙ ap (λ (l : List (List ℕ)). (spelled h ++ s ∷ []) ++ l) none ∙ append-nil (spelled h ++ s ∷ []) in
+    let same : spelled k ++ spelling c ∷ [] ≡ spelled h ++ s ∷ [] = e ∙ ap (λ (l : List (List ℕ)). (spelled h ++ s ∷ []) ++ l) none
+    ∙ append-nil (spelled h ++ s ∷ []) in
     let parts = snoc_inj (spelled k) (spelled h) (spelling c) s same in
     let front : k ≡ h = spelled_one n r k h a.2 b parts.0 in
     (c, a.0, subst (λ (l : History). refusal n r l c ≡ None) front a.1, sym parts.1))
@@ -60,4 +62,5 @@ next_command n r (c ∷ k) h s ss a b e = ⊎_elim
     (last_of ss)
 
 pub one_lawful_history : OneLawfulHistory
-one_lawful_history n region bytes h k first second = spelled_one n region h k first.lawful second.lawful (one_history region bytes (spelled h) (spelled k) first.stands second.stands)
+one_lawful_history n region bytes h k first second = spelled_one n region h k first.lawful second.lawful
+    (one_history region bytes (spelled h) (spelled k) first.stands second.stands)

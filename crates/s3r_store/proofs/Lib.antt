@@ -1,5 +1,6 @@
 pub mod Frames
 pub mod Histories
+pub mod Formats
 pub mod Composed
 pub mod Committed
 pub mod Damaged

@@ -9,17 +9,19 @@ use Rattle.s3r_history.specs.Words.{History}
 use Rattle.s3r_history.specs.Accepts.{refusal}
 use Rattle.s3r_store.specs.declared.fault.StoreFault.{StoreFault}
 use Rattle.s3r_store.specs.declared.fault.StoreFault.TheVariants as faults
-use Rattle.s3r_store.specs.declared.held.Held.{Held}
-use Rattle.s3r_store.specs.Stands.{spelled, StandsFor}
+use Rattle.s3r_store.specs.declared.loaded_region.LoadedRegion.{LoadedRegion}
+use Rattle.s3r_store.specs.Stands.{spelled, StandsFor, KeepsFormat}
 use Rattle.s3r_store.specs.Knows.{Knows, IsAtEnd}
 
 -- the volume stands for the history, or for it with the command
-abbrev pub IsEither : (n v : ℕ) → History → Command → List ℕ → List ℕ → Type 0
-IsEither n v h c old new = StandsFor n v h new ⊎ StandsFor n v (c ∷ h) new
+pub record IsEither (n v : ℕ) (h : History) (c : Command) (old new : List ℕ) : Type 0 where
+  pub stands : StandsFor n v h new ⊎ StandsFor n v (c ∷ h) new
+  pub format : KeepsFormat old new
 
 -- it stands for the history with the command
-abbrev pub IsWith : (n v : ℕ) → History → Command → List ℕ → List ℕ → Type 0
-IsWith n v h c old new = StandsFor n v (c ∷ h) new
+pub record IsWith (n v : ℕ) (h : History) (c : Command) (old new : List ℕ) : Type 0 where
+  pub stands : StandsFor n v (c ∷ h) new
+  pub format : KeepsFormat old new
 
 -- A command was committed to volume v behind this history, or is in doubt.
 pub record Commits (n v : ℕ) (h : History) (c : Command) (ok : Bool) (old new : Outside) : Type 0 where
@@ -47,7 +49,7 @@ HasWritten n v h c (Err (faults.Damaged u offset)) room old new = ⊥
 HasWritten n v h c (Err faults.OutOfMemory) room old new = (refusal n v h c ≡ None) × Commits n v h c false old new
 
 -- what is held after a commit, and what came of it
-abbrev pub HasCommitted : (n v : ℕ) → History → Command → Result ℕ StoreFault → ℕ → Held → Held → Outside → Outside → Type 0
+abbrev pub HasCommitted : (n v : ℕ) → History → Command → Result ℕ StoreFault → ℕ → LoadedRegion → LoadedRegion → Outside → Outside → Type 0
 HasCommitted n v h c (Ok index) room a b old new =
     (index ≡ length h + 1) × (refusal n v h c ≡ None) × (length_with v h c ≤ room) × Knows n v b (c ∷ h) new × Commits n v h c true old new
 HasCommitted n v h c (Err fault) room a b old new = HasWritten n v h c (Err fault) room old new

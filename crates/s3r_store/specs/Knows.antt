@@ -6,7 +6,7 @@ use Rattle.s3r_journal.specs.Step.{IsReady, IsVacant}
 use Rattle.s3r_history.specs.Words.{History}
 use Rattle.s3r_history.specs.Accepts.{IsLawful}
 use Rattle.s3r_region.specs.After.{IsAfter}
-use Rattle.s3r_store.specs.declared.held.Held.{Held}
+use Rattle.s3r_store.specs.declared.loaded_region.LoadedRegion.{LoadedRegion}
 use Rattle.s3r_store.specs.declared.store.Store.{Store}
 use Rattle.s3r_store.specs.Stands.{spelled}
 
@@ -15,21 +15,21 @@ abbrev pub CanCommit : ℕ → Option ℕ → Outside → Type 0
 CanCommit v None w = IsVacant v w
 CanCommit v (Some end) w = IsReady v end w
 
--- besides, the volume stands for commands of these spellings
+-- besides, the volume stands for commands of these spellings, in some format
 abbrev pub IsAtEnd : ℕ → Option ℕ → List (List ℕ) → Outside → Type 0
 IsAtEnd v None spellings w = (spellings ≡ []) × IsVacant v w
-IsAtEnd v (Some end) spellings w = IsReady v end w × StandsTo v spellings end (w.as_read.volume v)
+IsAtEnd v (Some end) spellings w = IsReady v end w × (format : ℕ) × StandsTo v format spellings end (w.as_read.volume v)
 
 -- The state is after a lawful history, for which the volume stands, with this end, in each image. n is the number of
 -- regions.
-pub record Knows (n v : ℕ) (held : Held) (h : History) (w : Outside) : Type 0 where
+pub record Knows (n v : ℕ) (held : LoadedRegion) (h : History) (w : Outside) : Type 0 where
   pub after : IsAfter held.state h
   pub region : held.state.region ≡ v
   pub regions : held.state.regions ≡ n
   pub lawful : IsLawful n v h
   pub volume : IsAtEnd v held.end (spelled h) w
 
-abbrev pub IsKnown : (n v : ℕ) → Held → Outside → Type 0
+abbrev pub IsKnown : (n v : ℕ) → LoadedRegion → Outside → Type 0
 IsKnown n v held w = (h : History) × Knows n v held h w
 
 -- the store was read, and its history is this one

@@ -21,7 +21,8 @@ pub record TakesOne (n r : ℕ) (s : List ℕ) (h : History) (new : Contents) : 
 
 -- the command that is spelled so was taken in, or there is none that the history accepts
 abbrev pub TakesIn : {A : Type 0} → ℕ → ℕ → List ℕ → Result A StoreFault → Contents → Contents → Type 0
-TakesIn v at s (Ok x) old new = ((h : History) → IsAfter old h → TakesOne old.regions old.region s h new) × (new.region ≡ old.region) × (new.regions ≡ old.regions)
+TakesIn v at s (Ok x) old new = ((h : History) → IsAfter old h → TakesOne old.regions old.region s h new) × (new.region ≡ old.region)
+    × (new.regions ≡ old.regions)
 TakesIn v at s (Err (faults.Refused f)) old new = ⊥
 TakesIn v at s (Err (faults.Full u)) old new = ⊥
 TakesIn v at s (Err (faults.Volume u)) old new = ⊥

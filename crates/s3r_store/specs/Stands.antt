@@ -1,8 +1,8 @@
 -- What the bytes of a region's volume stand for.
-use Rattle.std.specs.Prelude.{◌≡◌, ℕ, List, [], ◌∷◌, ◌++◌}
+use Rattle.std.specs.Prelude.{◌≡◌, ℕ, true, false, List, [], ◌∷◌, ◌++◌}
 use Rattle.s3r_record.specs.Spelling.{spelling, IsCommand}
 use Rattle.s3r_record.specs.declared.command.Command.{Command}
-use Rattle.s3r_journal.specs.Volume.{Stands}
+use Rattle.s3r_journal.specs.Volume.{Stands, is_empty_volume, format_of}
 use Rattle.s3r_journal.specs.Scan.{Finding, no_header, damaged_at, end_at, one_record, finding, IsReadTo}
 use Rattle.s3r_history.specs.Words.{History}
 use Rattle.s3r_history.specs.Accepts.{refusal, IsLawful}
@@ -17,6 +17,11 @@ spelled (c ∷ h) = spelled h ++ spelling c ∷ []
 pub record StandsFor (n region : ℕ) (h : History) (bytes : List ℕ) : Type 0 where
   pub stands : Stands region (spelled h) bytes
   pub lawful : IsLawful n region h
+
+-- A volume with an open header keeps it with its format, and an empty one gets a header of format 1 alone.
+pub record KeepsFormat (old new : List ℕ) : Type 0 where
+  pub keeps : is_empty_volume old ≡ false → (is_empty_volume new ≡ false) × (format_of new ≡ format_of old)
+  pub makes : is_empty_volume old ≡ true → is_empty_volume new ≡ false → format_of new ≡ 1
 
 -- what is found at a place behind a history is damaged, at this offset, or is no command that the history accepts
 abbrev pub IsWrong : (n region : ℕ) → History → ℕ → ℕ → Finding → Type 0

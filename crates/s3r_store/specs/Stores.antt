@@ -8,15 +8,15 @@ use Rattle.s3r_history.specs.Accepts.{refusal}
 use Rattle.s3r_region.specs.Contents.{Contents}
 use Rattle.s3r_store.specs.declared.fault.StoreFault.{StoreFault}
 use Rattle.s3r_store.specs.declared.fault.StoreFault.TheVariants as faults
-use Rattle.s3r_store.specs.declared.held.Held.{Held}
+use Rattle.s3r_store.specs.declared.loaded_region.LoadedRegion.{LoadedRegion}
 use Rattle.s3r_store.specs.declared.store.Store.{Store}
 use Rattle.s3r_store.specs.Knows.{Holds}
 use Rattle.s3r_store.specs.Commits.{Commits, length_with}
 
 abbrev pub state_of : Store → Option Contents
-state_of store = option_map (λ (held : Held). held.state) store.held
+state_of store = option_map (λ (held : LoadedRegion). held.state) store.held
 
-abbrev pub end_in : Option Held → ℕ
+abbrev pub end_in : Option LoadedRegion → ℕ
 end_in None = 0
 end_in (Some held) = unwrap_or held.end 0
 
@@ -29,6 +29,7 @@ StoreCommits n v h c (Ok index) room a b old new =
     (index ≡ length h + 1) × (refusal n v h c ≡ None) × (length_with v h c ≤ room) × Holds b (c ∷ h) new × Commits n v h c true old new
 StoreCommits n v h c (Err (faults.Refused f)) room a b old new = refusal n v h c ≡ Some f
 StoreCommits n v h c (Err (faults.Full u)) room a b old new = (refusal n v h c ≡ None) × (room < length_with v h c)
-StoreCommits n v h c (Err (faults.Volume u)) room a b old new = (refusal n v h c ≡ None) × (length_with v h c ≤ room) × (b.held ≡ None) × Commits n v h c false old new
+StoreCommits n v h c (Err (faults.Volume u)) room a b old new = (refusal n v h c ≡ None) × (length_with v h c ≤ room) × (b.held ≡ None)
+    × Commits n v h c false old new
 StoreCommits n v h c (Err (faults.Damaged u offset)) room a b old new = ⊥
 StoreCommits n v h c (Err faults.OutOfMemory) room a b old new = (refusal n v h c ≡ None) × (b.held ≡ None) × Commits n v h c false old new

@@ -5,13 +5,13 @@ use Rattle.s3r_journal.specs.Volume.{StandsTo, IsEmptyVolume}
 use Rattle.s3r_journal.specs.Step.{Changed}
 use Rattle.s3r_journal.specs.Append.{Appends, MayAppend}
 
--- what was empty has a header and the record
+-- what was empty has a header of format 1 and the record
 abbrev pub Begins : ℕ → List ℕ → List ℕ → List ℕ → Type 0
-Begins v s old new = IsEmptyVolume old → StandsTo v (s ∷ []) (16 + length s + 5) new
+Begins v s old new = IsEmptyVolume old → StandsTo v 1 (s ∷ []) (16 + length s + 5) new
 
 -- or has the header alone, or is empty still
 abbrev pub MayBegin : ℕ → List ℕ → List ℕ → List ℕ → Type 0
-MayBegin v s old new = IsEmptyVolume old → IsEmptyVolume new ⊎ (StandsTo v [] 16 new ⊎ StandsTo v (s ∷ []) (16 + length s + 5) new)
+MayBegin v s old new = IsEmptyVolume old → IsEmptyVolume new ⊎ (StandsTo v 1 [] 16 new ⊎ StandsTo v 1 (s ∷ []) (16 + length s + 5) new)
 
 abbrev pub DoesWrite : ℕ → Option ℕ → List ℕ → List ℕ → List ℕ → Type 0
 DoesWrite v None s = Begins v s

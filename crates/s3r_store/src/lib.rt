@@ -2,13 +2,13 @@
 #![tactic(auto)]
 
 mod fault;
-mod held;
 mod laws;
+mod loaded_region;
 mod reading;
 mod store;
 mod writing;
 
 pub use fault::StoreFault;
-pub use held::Held;
 pub use laws::one_lawful_history;
+pub use loaded_region::LoadedRegion;
 pub use store::Store;

@@ -5,8 +5,8 @@ ghost use Rattle.s3r_history.specs.Words.{History};
 ghost use Rattle.s3r_store.specs.Knows.{IsKnown};
 ghost use Rattle.s3r_store.specs.Reads.{TakesIn, IsDamage, HasCause};
 
-use crate::{Held, StoreFault};
-use s3r_journal::{Scanned, scan};
+use crate::{LoadedRegion, StoreFault};
+use s3r_journal::{Scanned, Window, scan_in};
 use s3r_record::{RecordFault, decode};
 use s3r_region::{Deny, State};
 use s3r_world::World;
@@ -57,7 +57,7 @@ pub fn read_volume<W: World>(
     world: &mut W,
     v: u32,
     regions: u32,
-) -> Result<Held, StoreFault>
+) -> Result<LoadedRegion, StoreFault>
     requires volume { v < (W.shape world.old).volumes }
     requires region { v ≤ 7 }
     ensures told { IsTrue W.tells → Looks (W.outside world.old) (W.outside world.new) }
@@ -69,17 +69,18 @@ pub fn read_volume<W: World>(
     ensures goes { W.goes world.old world.new }
     ensures shape { KeepsShape (W.shape world.old) (W.shape world.new) }
 {
+    let mut window = Window::open(alloc, world, v)?;
     let mut state = State::new(alloc, v as u8, regions);
     let mut from = FIRST;
     'records: loop {
-        match scan(world, alloc, v, v as u8, from)? {
+        match scan_in(world, alloc, v, v as u8, from, &mut window)? {
             Scanned::Empty => {
-                return Ok(Held {
+                return Ok(LoadedRegion {
                     state: State::new(alloc, v as u8, regions),
                     end: None,
                 });
             }
-            Scanned::End(at) => return Ok(Held {
+            Scanned::End(at) => return Ok(LoadedRegion {
                 state,
                 end: Some(at),
             }),

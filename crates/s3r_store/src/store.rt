@@ -3,7 +3,7 @@ ghost use Rattle.std.specs.Prelude.{◌≡◌, ◌+◌, ◌≤◌, ◌<◌, ℕ,
 ghost use Rattle.std.specs.Option.{ForSome};
 
 use crate::reading::read_volume;
-use crate::{Held, StoreFault};
+use crate::{LoadedRegion, StoreFault};
 use s3r_names::Bytes;
 use s3r_record::Command;
 use s3r_region::State;
@@ -18,7 +18,7 @@ pub struct Store {
     /// How many regions there are.
     pub regions: u32,
     /// What the volume was read as: none before it was read, and after a fault.
-    pub held: Option<Held>,
+    pub held: Option<LoadedRegion>,
     // Each record is at least five bytes long.
     ghost few: { ForSome held (λ held. held.state.commands + 16 ≤ unwrap_or held.end 16) },
 }
@@ -123,7 +123,9 @@ impl Store {
         requires region { self.old.v ≤ 7 }
         requires tied { IsTrue W.tells → Ties self.old (W.outside world.old) }
         requires fits { IsCommand command }
-        ensures told { IsTrue W.tells → (h : History) → Holds self.old h (W.outside world.old) → StoreCommits self.old.regions self.old.v h command result ((W.shape world.old).room self.old.v) self.old self.new (W.outside world.old) (W.outside world.new) }
+        ensures told { IsTrue W.tells → (h : History) → Holds self.old h (W.outside world.old)
+            → StoreCommits self.old.regions self.old.v h command result ((W.shape world.old).room self.old.v) self.old self.new (W.outside world.old)
+            (W.outside world.new) }
         ensures v { self.new.v ≡ self.old.v }
         ensures regions { self.new.regions ≡ self.old.regions }
         ensures denied { WhereDenied result ((self.new.held ≡ self.old.held) × (world.new ≡ world.old)) }

@@ -61,7 +61,8 @@ pub fn write<W: World>(
     ensures fits { IfOk result (λ e. e < (W.shape world.old).room v) }
     ensures small { IfOk result (λ e. e < 268435456) }
     ensures full_unchanged { IsErrOf result (AppendFault.VolumeFull v) → world.new ≡ world.old }
-    ensures fault { IfErr result (λ e. (e ≡ AppendFault.VolumeFull v) ⊎ ((e ≡ AppendFault.Volume v) × Rises 1 ((W.faults world.old).volume v) ((W.faults world.new).volume v))) }
+    ensures fault { IfErr result (λ e. (e ≡ AppendFault.VolumeFull v) ⊎ ((e ≡ AppendFault.Volume v)
+        × Rises 1 ((W.faults world.old).volume v) ((W.faults world.new).volume v))) }
     ensures counts { NoneFalls (W.faults world.old) (W.faults world.new) }
     ensures goes { W.goes world.old world.new }
     ensures shape { KeepsShape (W.shape world.old) (W.shape world.new) }

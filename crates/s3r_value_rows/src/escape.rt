@@ -4,7 +4,7 @@ use std::alloc::{AllocError, Global};
 
 /// Where the next byte of a text stands.
 #[derive(Clone, Copy)]
-enum Place {
+enum Reading {
     Plain,
     BehindBackslash,
     FirstDigit,
@@ -72,14 +72,14 @@ fn letter(byte: u8) -> u8 {
 }
 
 /// Where the byte after this one stands, and the byte that is complete with it.
-fn step(place: Place, byte: u8) -> (Place, Option<u8>) {
+fn step(place: Reading, byte: u8) -> (Reading, Option<u8>) {
     match place {
-        Place::Plain if byte == b'\\' => (Place::BehindBackslash, None),
-        Place::Plain => (Place::Plain, Some(byte)),
-        Place::BehindBackslash if byte == b'x' => (Place::FirstDigit, None),
-        Place::BehindBackslash => (Place::Plain, Some(letter(byte))),
-        Place::FirstDigit => (Place::SecondDigit(digit(byte)), None),
-        Place::SecondDigit(high) => (Place::Plain, Some(high << 4 | digit(byte))),
+        Reading::Plain if byte == b'\\' => (Reading::BehindBackslash, None),
+        Reading::Plain => (Reading::Plain, Some(byte)),
+        Reading::BehindBackslash if byte == b'x' => (Reading::FirstDigit, None),
+        Reading::BehindBackslash => (Reading::Plain, Some(letter(byte))),
+        Reading::FirstDigit => (Reading::SecondDigit(digit(byte)), None),
+        Reading::SecondDigit(high) => (Reading::Plain, Some(high << 4 | digit(byte))),
     }
 }
 
@@ -87,7 +87,7 @@ fn step(place: Place, byte: u8) -> (Place, Option<u8>) {
 pub fn bytes_of(alloc: Global, text: &str) -> Result<Vec<u8>, AllocError> {
     let text = repeated(alloc, text)?;
     let mut bytes = Vec::new(alloc);
-    let mut place = Place::Plain;
+    let mut place = Reading::Plain;
     for byte in text.as_bytes() {
         let (next, complete) = step(place, *byte);
         if let Some(byte) = complete {

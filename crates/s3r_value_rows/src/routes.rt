@@ -4,7 +4,7 @@ use crate::cells::Cells;
 use crate::fault::Fault;
 use crate::texts::{add, id_text, owned};
 use s3r_routes::{
-    Place, Query, RouteFault, Word, bucket_named, given, key_written, limit_of, path_of, place_of,
+    Query, RouteFault, Routes, Target, Word, bucket_named, given, key_written, limit_of, path_of,
     route_of, version_of,
 };
 use std::alloc::{AllocError, Global};
@@ -12,7 +12,7 @@ use std::alloc::{AllocError, Global};
 /// What a method asks at a place: a row of the table, or the status of the answer.
 fn asked(
     alloc: Global,
-    place: &Place<'_>,
+    place: &Target<'_>,
     method: &str,
     query: &Query,
 ) -> Result<String, AllocError> {
@@ -24,7 +24,7 @@ fn asked(
     }
 }
 
-fn asked_by_each(alloc: Global, place: &Place<'_>, query: &Query) -> Result<String, AllocError> {
+fn asked_by_each(alloc: Global, place: &Target<'_>, query: &Query) -> Result<String, AllocError> {
     let mut text = String::new(alloc);
     for method in ["GET", "HEAD", "PUT", "POST", "DELETE", "PATCH"] {
         add(&mut text, " ", asked(alloc, place, method, query)?.as_str())?;
@@ -34,11 +34,12 @@ fn asked_by_each(alloc: Global, place: &Place<'_>, query: &Query) -> Result<Stri
 
 /// What is asked of a target by GET, HEAD, PUT, POST, DELETE and PATCH.
 pub fn route(alloc: Global, cells: &Cells) -> Result<String, Fault> {
-    let target = cells.bytes(0);
-    let Some(place) = place_of(path_of(target)) else {
+    let routes = Routes::new(alloc)?;
+    let target = cells.text(0);
+    let Some(place) = routes.place_of(path_of(target)) else {
         return Err(Fault::Route(RouteFault::NoSuchRoute));
     };
-    let query = Query::read(alloc, target)?;
+    let query = Query::read(alloc, target.as_bytes())?;
     Ok(asked_by_each(alloc, &place, &query)?)
 }
 

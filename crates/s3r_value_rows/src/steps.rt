@@ -4,7 +4,7 @@ ghost use Rattle.std.specs.Prelude.{◌<◌};
 
 use crate::fault::Fault;
 use s3r_names::{Key, Stamp, VersionId};
-use s3r_versions::Place;
+use s3r_versions::ListPosition;
 use std::alloc::Global;
 
 /// A step by its text.
@@ -68,7 +68,7 @@ impl<'a> Step<'a> {
     }
 
     /// The place behind a key, or behind its version where an id follows. None where the key isn't there.
-    pub fn place(&self, alloc: Global, place: usize) -> Result<Option<Place>, Fault>
+    pub fn place(&self, alloc: Global, place: usize) -> Result<Option<ListPosition>, Fault>
         requires { place < 100 }
     {
         let key = self.word(place);
@@ -77,6 +77,6 @@ impl<'a> Step<'a> {
         }
         let id = self.optional_id(place + 1);
         let key = Key::read(alloc, key.as_bytes())?;
-        Ok(Some(Place { key, id }))
+        Ok(Some(ListPosition { key, id }))
     }
 }

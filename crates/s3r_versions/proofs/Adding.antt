@@ -41,7 +41,8 @@ insert-is row (x ∷ xs) = go (comes_before row x) (insert-is row xs)
         ap (λ k. insert (x ∷ xs) k row) one ∙ ap (λ ys. x ∷ ys) ih
 
 -- an insert at the first row that it comes before, or else at the end
-pub goes_to : {B : Type 0} (row : Row B) (rows : List (Row B)) (i : ℕ) → i ≡ unwrap_or (position (comes_before row) rows) (length rows) → insert rows i row ≡ with_row row rows
+pub goes_to : {B : Type 0} (row : Row B) (rows : List (Row B)) (i : ℕ) → i ≡ unwrap_or (position (comes_before row) rows) (length rows)
+    → insert rows i row ≡ with_row row rows
 goes_to row rows i h = ap (λ k. insert rows k row) (h ∙ place-is (comes_before row) rows) ∙ insert-is row rows
 
 pub adds_one : {B : Type 0} (row : Row B) (rows : List (Row B)) → IsPermutation (row ∷ rows) (with_row row rows)
@@ -49,13 +50,15 @@ adds_one row rows = subst (IsPermutation (row ∷ rows)) (insert-is row rows) (I
 
 -- ---- the order
 
-pub all_after : {B : Type 0} (row x : Row B) (rows : List (Row B)) → comes_before row x ≡ true → list_all (comes_before x) rows ≡ true → list_all (comes_before row) rows ≡ true
+pub all_after : {B : Type 0} (row x : Row B) (rows : List (Row B)) → comes_before row x ≡ true → list_all (comes_before x) rows ≡ true
+    → list_all (comes_before row) rows ≡ true
 all_after row x [] first rest = refl
 all_after row x (y ∷ ys) first rest =
     let parts = and_parts (comes_before x y) (list_all (comes_before x) ys) rest in
     and_from _ _ (before_trans row x y first parts.0) (all_after row x ys first parts.1)
 
-pub all-with_row : {B : Type 0} (p : Row B → Bool) (row : Row B) (rows : List (Row B)) → p row ≡ true → list_all p rows ≡ true → list_all p (with_row row rows) ≡ true
+pub all-with_row : {B : Type 0} (p : Row B → Bool) (row : Row B) (rows : List (Row B)) → p row ≡ true → list_all p rows ≡ true
+    → list_all p (with_row row rows) ≡ true
 all-with_row p row [] here all = and_from _ _ here refl
 all-with_row p row (x ∷ xs) here all = go (comes_before row x) (all-with_row p row xs here (and_parts (p x) (list_all p xs) all).1)
   where
@@ -71,7 +74,8 @@ none_parts {X} p x xs = go (p x)
     go true h = absurd (true≢false (ap is_some h))
     go false h = (refl, h)
 
-pub stays_listed : {B : Type 0} (row : Row B) (rows : List (Row B)) → is_listed rows ≡ true → find_version row.key row.id rows ≡ None → is_listed (with_row row rows) ≡ true
+pub stays_listed : {B : Type 0} (row : Row B) (rows : List (Row B)) → is_listed rows ≡ true → find_version row.key row.id rows ≡ None
+    → is_listed (with_row row rows) ≡ true
 stays_listed row [] up new = refl
 stays_listed row (x ∷ xs) up new = go (comes_before row x) refl (stays_listed row xs parts.1 news.1)
   where
@@ -90,7 +94,8 @@ none_is : {X : Type 0} (p : X → Bool) (xs : List X) → find p xs ≡ None →
 none_is p [] none = refl
 none_is p (x ∷ xs) none = let parts = none_parts p x xs none in and_from _ _ (ap not parts.0) (none_is p xs parts.1)
 
-pub stays_once : {B : Type 0} (row : Row B) (rows : List (Row B)) → has_each_once rows ≡ true → find_version row.key row.id rows ≡ None → has_each_once (with_row row rows) ≡ true
+pub stays_once : {B : Type 0} (row : Row B) (rows : List (Row B)) → has_each_once rows ≡ true → find_version row.key row.id rows ≡ None
+    → has_each_once (with_row row rows) ≡ true
 stays_once row [] once new = refl
 stays_once row (x ∷ xs) once new = go (comes_before row x) (stays_once row xs parts.1 news.1)
   where
@@ -126,8 +131,10 @@ find-with_other p row (x ∷ xs) other = go (comes_before row x) (find-with_othe
     go true ih = ap (λ t. cond t (Some row) (find p (x ∷ xs))) other
     go false ih = ap (λ ys. cond (p x) (Some x) ys) ih
 
-pub finds_it : {B : Type 0} (row : Row B) (rows : List (Row B)) → find_version row.key row.id rows ≡ None → find_version row.key row.id (with_row row rows) ≡ Some row
+pub finds_it : {B : Type 0} (row : Row B) (rows : List (Row B)) → find_version row.key row.id rows ≡ None
+    → find_version row.key row.id (with_row row rows) ≡ Some row
 finds_it row rows new = find-with_row (is_version row.key row.id) row rows (is_own_version row) new
 
-pub finds_others : {B : Type 0} (row : Row B) (rows : List (Row B)) (key : List ℕ) (id : VersionId) → is_version key id row ≡ false → find_version key id (with_row row rows) ≡ find_version key id rows
+pub finds_others : {B : Type 0} (row : Row B) (rows : List (Row B)) (key : List ℕ) (id : VersionId) → is_version key id row ≡ false
+    → find_version key id (with_row row rows) ≡ find_version key id rows
 finds_others row rows key id other = find-with_other (is_version key id) row rows other

@@ -37,7 +37,8 @@ keys_rise a b h =
     ]
 
 -- a key that is below a row's is below those of all rows behind it
-pub key_onward : {B : Type 0} (key : List ℕ) (a b : Row B) → comes_before a b ≡ true → is_lt (slice_cmp nat_cmp key a.key) ≡ true → is_lt (slice_cmp nat_cmp key b.key) ≡ true
+pub key_onward : {B : Type 0} (key : List ℕ) (a b : Row B) → comes_before a b ≡ true → is_lt (slice_cmp nat_cmp key a.key) ≡ true
+    → is_lt (slice_cmp nat_cmp key b.key) ≡ true
 key_onward key a b before below =
     elim (keys_rise a b before) [
       | inl less ↦ less_trans key_order key a.key b.key below less
@@ -47,7 +48,8 @@ key_onward key a b before below =
 -- ---- the rows behind a place
 
 -- where a test that passes at a row passes at all behind it, the rows that pass are those from the first on
-pub drop-onward : {B : Type 0} (p : Row B → Bool) (rows : List (Row B)) → ((a b : Row B) → comes_before a b ≡ true → p a ≡ true → p b ≡ true) → is_listed rows ≡ true → drop (position_or_len p rows) rows ≡ filter p rows
+pub drop-onward : {B : Type 0} (p : Row B → Bool) (rows : List (Row B)) → ((a b : Row B) → comes_before a b ≡ true → p a ≡ true → p b ≡ true)
+    → is_listed rows ≡ true → drop (position_or_len p rows) rows ≡ filter p rows
 drop-onward p [] onward up = refl
 drop-onward {B} p (x ∷ xs) onward up = go (p x) refl (drop-onward p xs onward parts.1)
   where
@@ -60,7 +62,8 @@ drop-onward {B} p (x ∷ xs) onward up = go (p x) refl (drop-onward p xs onward 
         let b = and_parts (comes_before x y) (list_all (comes_before x) ys) before in
         and_from _ _ (onward x y b.0 h) (all h ys b.1)
 
-    go : (t : Bool) → p x ≡ t → drop (position_or_len p xs) xs ≡ filter p xs → drop (cond (not t) (1 + position_or_len p xs) 0) (x ∷ xs) ≡ cond t (x ∷ filter p xs) (filter p xs)
+    go : (t : Bool) → p x ≡ t → drop (position_or_len p xs) xs ≡ filter p xs
+        → drop (cond (not t) (1 + position_or_len p xs) 0) (x ∷ xs) ≡ cond t (x ∷ filter p xs) (filter p xs)
     go true h ih = ap (λ ys. x ∷ ys) (sym (filter_all p xs (all h xs parts.0)))
     go false h ih =
         let n = position_or_len p xs in
@@ -68,7 +71,8 @@ drop-onward {B} p (x ∷ xs) onward up = go (p x) refl (drop-onward p xs onward 
         ap (λ k. drop k (x ∷ xs)) one ∙ ih
 
 -- the rows behind one of them
-pub filter-behind : {B : Type 0} (xs : List (Row B)) (x : Row B) (ys : List (Row B)) → is_listed (xs ++ x ∷ ys) ≡ true → filter (comes_before x) (xs ++ x ∷ ys) ≡ ys
+pub filter-behind : {B : Type 0} (xs : List (Row B)) (x : Row B) (ys : List (Row B)) → is_listed (xs ++ x ∷ ys) ≡ true
+    → filter (comes_before x) (xs ++ x ∷ ys) ≡ ys
 filter-behind {B} xs x ys up =
     let parts = pairs-around comes_before xs x ys up in
     filter-append (comes_before x) xs (x ∷ ys)
@@ -92,15 +96,18 @@ only_named {B} key id rows i f once q = ap (list_any (λ row. is_version key id 
         let p = and_parts (not (is_version key id y)) (list_all (λ row. not (is_version key id row)) ys) h in
         or_from _ _ (ap (λ t. t && q y) (not-true (is_version key id y) p.0)) (off ys p.1)
 
-    go : (ys : List (Row B)) → list_all (λ row. not (is_version key id row)) ys ≡ true → list_any (λ row. is_version key id row && q row) (ys ++ f.here.at ∷ f.here.behind) ≡ q f.here.at
+    go : (ys : List (Row B)) → list_all (λ row. not (is_version key id row)) ys ≡ true
+        → list_any (λ row. is_version key id row && q row) (ys ++ f.here.at ∷ f.here.behind) ≡ q f.here.at
     go [] h =
         ap₂ (λ t u. (t && q f.here.at) || u) f.passes (off f.here.behind (none_behind key id rows i f once)) ∙ or_false (q f.here.at)
     go (y ∷ ys) h =
         let p = and_parts (not (is_version key id y)) (list_all (λ row. not (is_version key id row)) ys) h in
-        ap (λ t. (t && q y) || list_any (λ row. is_version key id row && q row) (ys ++ f.here.at ∷ f.here.behind)) (not-true (is_version key id y) p.0) ∙ go ys p.1
+        ap (λ t. (t && q y) || list_any (λ row. is_version key id row && q row) (ys ++ f.here.at ∷ f.here.behind)) (not-true (is_version key id y) p.0)
+        ∙ go ys p.1
 
 -- the rows behind a version, and whether it is there
-pub drop-version : {B : Type 0} (key : List ℕ) (id : VersionId) (rows : List (Row B)) (i : ℕ) → is_listed rows ≡ true → has_each_once rows ≡ true → position (is_version key id) rows ≡ Some i
+pub drop-version : {B : Type 0} (key : List ℕ) (id : VersionId) (rows : List (Row B)) (i : ℕ) → is_listed rows ≡ true → has_each_once rows ≡ true
+    → position (is_version key id) rows ≡ Some i
     → drop (i + 1) rows ≡ filter (is_behind key (Some id) rows) rows
 drop-version key id rows i up once at =
     let f = first_at (is_version key id) rows i at in
@@ -115,7 +122,8 @@ pub any_there : {X : Type 0} (p : X → Bool) (xs : List X) (o : Option ℕ) →
 any_there p xs o h = find_there p xs o h ∙ some-find p xs
 
 -- the rows behind all of keys up to this one
-pub drop-key : {B : Type 0} (key : List ℕ) (rows : List (Row B)) (i : ℕ) → is_listed rows ≡ true → i ≡ unwrap_or (position (λ (row : Row B). is_lt (slice_cmp nat_cmp key row.key)) rows) (length rows)
+pub drop-key : {B : Type 0} (key : List ℕ) (rows : List (Row B)) (i : ℕ) → is_listed rows ≡ true
+    → i ≡ unwrap_or (position (λ (row : Row B). is_lt (slice_cmp nat_cmp key row.key)) rows) (length rows)
     → drop i rows ≡ filter (is_behind key None rows) rows
 drop-key {B} key rows i up at =
     let p : Row B → Bool = λ row. is_lt (slice_cmp nat_cmp key row.key) in
@@ -127,12 +135,14 @@ drop-key {B} key rows i up at =
 before_later : {B : Type 0} (a b : Row B) → bytes_eq a.key b.key ≡ true → comes_before a b ≡ true → is_later a b ≡ true
 before_later a b same before =
     elim (or_cases _ _ before) [
-      | inl less ↦ absurd (true≢false (sym less ∙ ap (λ k. is_lt (slice_cmp nat_cmp a.key k)) (sym ((bytes_eq-Decides a.key b.key).0 same)) ∙ less_irrefl key_order a.key))
+      | inl less ↦ absurd (true≢false (sym less ∙ ap (λ k. is_lt (slice_cmp nat_cmp a.key k)) (sym ((bytes_eq-Decides a.key b.key).0 same))
+          ∙ less_irrefl key_order a.key))
       | inr both ↦ (and_parts (bytes_eq a.key b.key) (is_later a b) both).1
     ]
 
 -- a row is the latest of its key where none before it is of the key
-pub latest-around : {B : Type 0} (rows : List (Row B)) (i : ℕ) (a : Around rows i) → is_listed rows ≡ true → is_latest a.at.key rows a.at ≡ not (list_any (is_of_key a.at.key) a.before)
+pub latest-around : {B : Type 0} (rows : List (Row B)) (i : ℕ) (a : Around rows i) → is_listed rows ≡ true
+    → is_latest a.at.key rows a.at ≡ not (list_any (is_of_key a.at.key) a.before)
 latest-around {B} rows i a up =
     ap₂ (λ t u. t && not u) own (ap (list_any (λ other. is_of_key a.at.key other && is_later other a.at)) a.is ∙ go a.before parts.0)
   where
@@ -146,7 +156,8 @@ latest-around {B} rows i a up =
     later y true h before = before_later y a.at h before
     later y false h before = refl
 
-    go : (ys : List (Row B)) → list_all (λ y. comes_before y a.at) ys ≡ true → list_any (λ other. is_of_key a.at.key other && is_later other a.at) (ys ++ a.at ∷ a.behind) ≡ list_any (is_of_key a.at.key) ys
+    go : (ys : List (Row B)) → list_all (λ y. comes_before y a.at) ys ≡ true
+        → list_any (λ other. is_of_key a.at.key other && is_later other a.at) (ys ++ a.at ∷ a.behind) ≡ list_any (is_of_key a.at.key) ys
     go [] h = or_from _ _ (itself_not_later a.at.key a.at own) (none_later a.at.key a.at a.behind own parts.1)
     go (y ∷ ys) h =
         let p = and_parts (comes_before y a.at) (list_all (λ z. comes_before z a.at) ys) h in
@@ -177,7 +188,8 @@ previous {X} xs j a = record {
     long = omega (arith, a.place, b.place, ap length b.is, length-append b.before (b.at ∷ b.behind))
 
 -- a row is the latest of its key where the row before it isn't of the key
-pub latest-previous : {B : Type 0} (rows : List (Row B)) (j : ℕ) (a : Around rows (suc j)) (p : Previous rows j a) → is_listed rows ≡ true → is_latest a.at.key rows a.at ≡ not (bytes_eq p.last.key a.at.key)
+pub latest-previous : {B : Type 0} (rows : List (Row B)) (j : ℕ) (a : Around rows (suc j)) (p : Previous rows j a) → is_listed rows ≡ true
+    → is_latest a.at.key rows a.at ≡ not (bytes_eq p.last.key a.at.key)
 latest-previous {B} rows j a p up = latest-around rows (suc j) a up ∙ ap not (ap (list_any (is_of_key a.at.key)) p.is ∙ go p.front parts.0)
   where
     whole : rows ≡ p.front ++ p.last ∷ (a.at ∷ a.behind)
@@ -215,7 +227,8 @@ latest-previous {B} rows j a p up = latest-around rows (suc j) a up ∙ ap not (
         ap (λ t. is_of_key a.at.key y || t) (go ys q.1) ∙ absorb (is_of_key a.at.key y) (is_of_key a.at.key p.last) (between y q.0)
 
 -- what is read at a place: the first row is the latest of its key, and another where the row before it is of another key
-pub latest-first : {B : Type 0} (rows : List (Row B)) (i : ℕ) → is_listed rows ≡ true → i < length rows → i ≡ 0 → (x : Row B) → is_latest (get_or rows i x).key rows (get_or rows i x) ≡ true
+pub latest-first : {B : Type 0} (rows : List (Row B)) (i : ℕ) → is_listed rows ≡ true → i < length rows → i ≡ 0 → (x : Row B)
+    → is_latest (get_or rows i x).key rows (get_or rows i x) ≡ true
 latest-first rows i up inside none x =
     let a = around rows i inside in
     ap (λ y. is_latest y.key rows y) (around-get_or rows i a x)

@@ -22,7 +22,8 @@ same_order f keeps a b =
     ap₂ (λ x y. is_lt (slice_cmp nat_cmp x y) || (bytes_eq x y && is_before (first_stamp (f b)) (first_stamp (f a)))) (keeps.key a) (keeps.key b)
     ∙ ap₂ (λ s t. is_lt (slice_cmp nat_cmp a.key b.key) || (bytes_eq a.key b.key && is_before t s)) (same_stamp f keeps a) (same_stamp f keeps b)
 
-pub same_version : {A B : Type 0} (f : Row A → Row B) (keeps : KeepsPlace f) (key : List ℕ) (id : VersionId) (row : Row A) → is_version key id (f row) ≡ is_version key id row
+pub same_version : {A B : Type 0} (f : Row A → Row B) (keeps : KeepsPlace f) (key : List ℕ) (id : VersionId) (row : Row A)
+    → is_version key id (f row) ≡ is_version key id row
 same_version f keeps key id row = ap₂ (λ k i. bytes_eq k key && id_eq i id) (keeps.key row) (keeps.id row)
 
 same_pair : {A B : Type 0} (f : Row A → Row B) (keeps : KeepsPlace f) (a b : Row A) → not (is_version (f a).key (f a).id (f b)) ≡ not (is_version a.key a.id b)
@@ -46,7 +47,8 @@ all-map : {X Y : Type 0} (p : X → Bool) (q : Y → Bool) (f : X → Y) → ((x
 all-map p q f same [] = refl
 all-map p q f same (x ∷ xs) = ap₂ (λ t u. t && u) (same x) (all-map p q f same xs)
 
-pairs-map : {X Y : Type 0} (r : X → X → Bool) (s : Y → Y → Bool) (f : X → Y) → ((a b : X) → s (f a) (f b) ≡ r a b) → (xs : List X) → all_pairs s (map f xs) ≡ all_pairs r xs
+pairs-map : {X Y : Type 0} (r : X → X → Bool) (s : Y → Y → Bool) (f : X → Y) → ((a b : X) → s (f a) (f b) ≡ r a b) → (xs : List X)
+    → all_pairs s (map f xs) ≡ all_pairs r xs
 pairs-map r s f same [] = refl
 pairs-map r s f same (x ∷ xs) = ap₂ (λ t u. t && u) (all-map (r x) (s (f x)) f (same x) xs) (pairs-map r s f same xs)
 
@@ -64,7 +66,8 @@ listed-map f keeps rows = pairs-map comes_before comes_before f (same_order f ke
 pub once-map : {A B : Type 0} (f : Row A → Row B) → KeepsPlace f → (rows : List (Row A)) → has_each_once (map f rows) ≡ has_each_once rows
 once-map f keeps rows = pairs-map (λ a b. not (is_version a.key a.id b)) (λ a b. not (is_version a.key a.id b)) f (same_pair f keeps) rows
 
-pub find_version-map : {A B : Type 0} (f : Row A → Row B) → KeepsPlace f → (key : List ℕ) (id : VersionId) (rows : List (Row A)) → find_version key id (map f rows) ≡ option_map f (find_version key id rows)
+pub find_version-map : {A B : Type 0} (f : Row A → Row B) → KeepsPlace f → (key : List ℕ) (id : VersionId) (rows : List (Row A))
+    → find_version key id (map f rows) ≡ option_map f (find_version key id rows)
 find_version-map f keeps key id rows = find-map (is_version key id) (is_version key id) f (same_version f keeps key id) rows
 
 pub change_keeps_order : {B : Type 0} (key : List ℕ) (id : VersionId) (f : Row B → Row B) (rows : List (Row B)) → KeepsPlace f
@@ -77,30 +80,35 @@ pub change_finds : {B : Type 0} (key k : List ℕ) (id i : VersionId) (f : Row B
 change_finds key k id i f rows keeps = find_version-map (if_version key id f) (if_version-keeps key id f keeps) k i rows
 
 -- rows are changed before a version is removed, or after
-pub removal_commutes_with_change : {A B : Type 0} (f : Row A → Row B) → KeepsPlace f → (key : List ℕ) (id : VersionId) (rows : List (Row A)) → without_version key id (map f rows) ≡ map f (without_version key id rows)
+pub removal_commutes_with_change : {A B : Type 0} (f : Row A → Row B) → KeepsPlace f → (key : List ℕ) (id : VersionId) (rows : List (Row A))
+    → without_version key id (map f rows) ≡ map f (without_version key id rows)
 removal_commutes_with_change f keeps key id [] = refl
 removal_commutes_with_change f keeps key id (x ∷ xs) =
     ap (λ t. cond (not t) (f x ∷ without_version key id (map f xs)) (without_version key id (map f xs))) (same_version f keeps key id x)
     ∙ go (is_version key id x) (removal_commutes_with_change f keeps key id xs)
   where
     go : (t : Bool) → without_version key id (map f xs) ≡ map f (without_version key id xs)
-        → cond (not t) (f x ∷ without_version key id (map f xs)) (without_version key id (map f xs)) ≡ map f (cond (not t) (x ∷ without_version key id xs) (without_version key id xs))
+        → cond (not t) (f x ∷ without_version key id (map f xs)) (without_version key id (map f xs)) ≡ map f
+        (cond (not t) (x ∷ without_version key id xs) (without_version key id xs))
     go true ih = ih
     go false ih = ap (λ ys. f x ∷ ys) ih
 
-pub adding_commutes_with_change : {A B : Type 0} (f : Row A → Row B) (row : Row A) (rows : List (Row A)) → KeepsPlace f → map f (with_row row rows) ≡ with_row (f row) (map f rows)
+pub adding_commutes_with_change : {A B : Type 0} (f : Row A → Row B) (row : Row A) (rows : List (Row A)) → KeepsPlace f
+    → map f (with_row row rows) ≡ with_row (f row) (map f rows)
 adding_commutes_with_change f row [] keeps = refl
 adding_commutes_with_change {A} {B} f row (x ∷ xs) keeps =
     go (comes_before row x) (adding_commutes_with_change f row xs keeps)
     ∙ sym (ap (λ t. cond t (f row ∷ f x ∷ map f xs) (f x ∷ with_row (f row) (map f xs))) (same_order f keeps row x))
   where
-    go : (t : Bool) → map f (with_row row xs) ≡ with_row (f row) (map f xs) → map f (cond t (row ∷ x ∷ xs) (x ∷ with_row row xs)) ≡ cond t (f row ∷ f x ∷ map f xs) (f x ∷ with_row (f row) (map f xs))
+    go : (t : Bool) → map f (with_row row xs) ≡ with_row (f row) (map f xs)
+        → map f (cond t (row ∷ x ∷ xs) (x ∷ with_row row xs)) ≡ cond t (f row ∷ f x ∷ map f xs) (f x ∷ with_row (f row) (map f xs))
     go true ih = refl
     go false ih = ap (λ ys. f x ∷ ys) ih
 
 -- ---- writes under stamps
 
-pub writes_keep_places : {B : Type 0} (stamp : Stamp) → ((tags : List Tag) → KeepsPlace (with_tags {B = B} stamp tags)) × ((hold : Bool) → KeepsPlace (with_hold {B = B} stamp hold))
+pub writes_keep_places : {B : Type 0} (stamp : Stamp) → ((tags : List Tag) → KeepsPlace (with_tags {B = B} stamp tags))
+    × ((hold : Bool) → KeepsPlace (with_hold {B = B} stamp hold))
 writes_keep_places {B} stamp = (λ tags. tags_keep tags, λ hold. hold_keeps hold)
   where
     either : {X : Type 0} (part : Row B → X) (a b : Row B) → part a ≡ part b → (t : Bool) → part (cond t a b) ≡ part b

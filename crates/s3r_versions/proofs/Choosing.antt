@@ -57,14 +57,18 @@ find-left_out : {X : Type 0} (p : X → Bool) (xs : List X) → find p (filter (
 find-left_out p [] = refl
 find-left_out p (x ∷ xs) = go (p x) refl (find-left_out p xs)
   where
-    go : (t : Bool) → p x ≡ t → find p (filter (λ y. not (p y)) xs) ≡ None → find p (cond (not t) (x ∷ filter (λ y. not (p y)) xs) (filter (λ y. not (p y)) xs)) ≡ None
+    go : (t : Bool) → p x ≡ t → find p (filter (λ y. not (p y)) xs) ≡ None
+        → find p (cond (not t) (x ∷ filter (λ y. not (p y)) xs) (filter (λ y. not (p y)) xs)) ≡ None
     go true h ih = ih
     go false h ih = ap (λ t. cond t (Some x) (find p (filter (λ y. not (p y)) xs))) h ∙ ih
 
-pub removal_keeps_order : {B : Type 0} (key : List ℕ) (id : VersionId) (rows : List (Row B)) → (is_listed rows ≡ true → is_listed (without_version key id rows) ≡ true)
+pub removal_keeps_order : {B : Type 0} (key : List ℕ) (id : VersionId) (rows : List (Row B))
+    → (is_listed rows ≡ true → is_listed (without_version key id rows) ≡ true)
     × (has_each_once rows ≡ true → has_each_once (without_version key id rows) ≡ true)
-removal_keeps_order key id rows =
-    (pairs-filter comes_before (λ row. not (is_version key id row)) rows, pairs-filter (λ row other. not (is_version row.key row.id other)) (λ row. not (is_version key id row)) rows)
+removal_keeps_order key id rows = (
+  pairs-filter comes_before (λ row. not (is_version key id row)) rows,
+  pairs-filter (λ row other. not (is_version row.key row.id other)) (λ row. not (is_version key id row)) rows,
+)
 
 pub removal_finds : {B : Type 0} (key k : List ℕ) (id i : VersionId) (rows : List (Row B))
     → find_version k i (without_version key id rows) ≡ cond (bytes_eq key k && id_eq id i) None (find_version k i rows)
@@ -84,7 +88,8 @@ left_none {X} p (x ∷ xs) h = go (p x) h (left_none p xs)
     some [] = false
     some (y ∷ ys) = true
 
-    go : (t : Bool) → cond (not t) (x ∷ filter (λ y. not (p y)) xs) (filter (λ y. not (p y)) xs) ≡ [] → (filter (λ y. not (p y)) xs ≡ [] → list_all p xs ≡ true) → (t && list_all p xs) ≡ true
+    go : (t : Bool) → cond (not t) (x ∷ filter (λ y. not (p y)) xs) (filter (λ y. not (p y)) xs) ≡ []
+        → (filter (λ y. not (p y)) xs ≡ [] → list_all p xs ≡ true) → (t && list_all p xs) ≡ true
     go true e rest = rest e
     go false e rest = cc
 
@@ -94,7 +99,8 @@ none_left p (x ∷ xs) all =
     let parts = and_parts (p x) (list_all p xs) all in
     ap (λ t. cond (not t) (x ∷ filter (λ y. not (p y)) xs) (filter (λ y. not (p y)) xs)) parts.0 ∙ none_left p xs parts.1
 
-pub removal_empties : {B : Type 0} (key : List ℕ) (id : VersionId) (rows : List (Row B)) → (without_version key id rows ≡ []) ↔ (list_all (is_version key id) rows ≡ true)
+pub removal_empties : {B : Type 0} (key : List ℕ) (id : VersionId) (rows : List (Row B))
+    → (without_version key id rows ≡ []) ↔ (list_all (is_version key id) rows ≡ true)
 removal_empties key id rows = (left_none (is_version key id) rows, none_left (is_version key id) rows)
 
 -- ---- a row is added before or after
@@ -121,7 +127,8 @@ adding_commutes_with_choice {B} p row (x ∷ xs) up = go (comes_before row x) re
 
     past : (u : Bool) → comes_before row x ≡ false
         → filter p (with_row row xs) ≡ cond (p row) (with_row row (filter p xs)) (filter p xs)
-        → cond u (x ∷ filter p (with_row row xs)) (filter p (with_row row xs)) ≡ cond (p row) (with_row row (cond u (x ∷ filter p xs) (filter p xs))) (cond u (x ∷ filter p xs) (filter p xs))
+        → cond u (x ∷ filter p (with_row row xs)) (filter p (with_row row xs)) ≡ cond (p row) (with_row row (cond u (x ∷ filter p xs) (filter p xs)))
+        (cond u (x ∷ filter p xs) (filter p xs))
     past true after ih = ap (λ ys. x ∷ ys) ih ∙ behind (p row) after
     past false after ih = ih
 

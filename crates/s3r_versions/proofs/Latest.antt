@@ -18,7 +18,8 @@ not_later key x y same before = go (is_of_key key y && is_later y x) refl
         let parts = and_parts (is_of_key key y) (is_later y x) h in
         sym (later_before key y x parts.0 same parts.1) ∙ before_asym x y before
 
-pub none_later : {B : Type 0} (key : List ℕ) (x : Row B) (rows : List (Row B)) → is_of_key key x ≡ true → list_all (comes_before x) rows ≡ true → list_any (λ other. is_of_key key other && is_later other x) rows ≡ false
+pub none_later : {B : Type 0} (key : List ℕ) (x : Row B) (rows : List (Row B)) → is_of_key key x ≡ true → list_all (comes_before x) rows ≡ true
+    → list_any (λ other. is_of_key key other && is_later other x) rows ≡ false
 none_later key x [] same before = refl
 none_later key x (y ∷ ys) same before =
     let parts = and_parts (comes_before x y) (list_all (comes_before x) ys) before in
@@ -30,7 +31,8 @@ itself_not_later key x same = and_right (is_of_key key x) (is_later x x) (less_i
 
 -- the search for the latest row, where it is known whether x is of the key
 abbrev latest_past : {B : Type 0} → Bool → List ℕ → Row B → List (Row B) → List (Row B) → Option (Row B)
-latest_past t key x rows from = find (λ row. is_of_key key row && not ((t && is_later x row) || list_any (λ other. is_of_key key other && is_later other row) rows)) from
+latest_past t key x rows from = find (λ row. is_of_key key row && not ((t && is_later x row) || list_any
+    (λ other. is_of_key key other && is_later other row) rows)) from
 
 pub first-is-latest : {B : Type 0} (key : List ℕ) (rows : List (Row B)) → is_listed rows ≡ true → find (is_of_key key) rows ≡ latest key rows
 first-is-latest key [] up = refl

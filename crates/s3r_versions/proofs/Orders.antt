@@ -56,7 +56,8 @@ pub record IsLess {X : Type 0} (order : X → X → Ordering) (test : X → X �
   pub total : IsTotalOrder order
   pub same : (a b : X) → is_lt (order a b) ≡ test a b
 
-pub less_trans : {X : Type 0} {order : X → X → Ordering} {test : X → X → Bool} → IsLess order test → (a b c : X) → test a b ≡ true → test b c ≡ true → test a c ≡ true
+pub less_trans : {X : Type 0} {order : X → X → Ordering} {test : X → X → Bool} → IsLess order test → (a b c : X) → test a b ≡ true → test b c ≡ true
+    → test a c ≡ true
 less_trans {X} {order} is a b c p q =
     sym (is.same a c) ∙ ap is_lt (is.total.trans a b c (is-Less (order a b) (is.same a b ∙ p)) (is-Less (order b c) (is.same b c ∙ q)))
 
@@ -68,7 +69,8 @@ pub less_irrefl : {X : Type 0} {order : X → X → Ordering} {test : X → X �
 less_irrefl {X} {order} {test} is a = false_from_ne_true (test a a) (λ h. true≢false (sym h ∙ less_asym is a a h))
 
 -- of two that aren't tied one is less
-pub less_back : {X : Type 0} {order : X → X → Ordering} {test : X → X → Bool} → IsLess order test → (a b : X) → (order a b ≡ Equal → ⊥) → test a b ≡ false → test b a ≡ true
+pub less_back : {X : Type 0} {order : X → X → Ordering} {test : X → X → Bool} → IsLess order test → (a b : X) → (order a b ≡ Equal → ⊥) → test a b ≡ false
+    → test b a ≡ true
 less_back {X} {order} {test} is a b untied h = go (order a b) refl
   where
     go : (o : Ordering) → order a b ≡ o → test b a ≡ true
@@ -95,7 +97,8 @@ id_order = record {
 
 pub stamp_order : IsLess stamp_cmp is_before
 stamp_order = record {
-  total = then_total (on_total (λ (s : Stamp). s.n) nat_cmp_total) (then_total (on_total (λ (s : Stamp). s.region) nat_cmp_total) (on_total (λ (s : Stamp). s.index) nat_cmp_total));
+  total = then_total (on_total (λ (s : Stamp). s.n) nat_cmp_total) (then_total (on_total (λ (s : Stamp). s.region) nat_cmp_total)
+      (on_total (λ (s : Stamp). s.index) nat_cmp_total));
   same = λ a b. lt-then-nat_cmp a.n b.n _ ∙ ap (λ t. nat_lt a.n b.n || ((a.n == b.n) && t)) (id_test a.region a.index b.region b.index);
 }
 

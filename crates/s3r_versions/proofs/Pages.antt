@@ -7,7 +7,7 @@ use Rattle.std.proofs.lemmas.List.Elements.{filter_agree, Contains-append_right}
 use Rattle.std.proofs.lemmas.Bool.Decides.{nat_tests}
 use Rattle.s3r_names.specs.declared.version.VersionId.{VersionId}
 use Rattle.s3r_versions.specs.declared.row.Row.{Row}
-use Rattle.s3r_versions.specs.declared.listing.Place.{Place}
+use Rattle.s3r_versions.specs.declared.listing.ListPosition.{ListPosition}
 use Rattle.s3r_versions.specs.declared.listing.Listed.{Listed}
 use Rattle.s3r_versions.specs.declared.listing.Listing.{Listing}
 use Rattle.s3r_versions.specs.Order.{all_pairs, comes_before, is_listed}
@@ -30,16 +30,19 @@ pub record SoFar {B : Type 0} (prefix : List ℕ) (rows : List (Row B)) (start l
   pub short : length found ≤ limit
 
 -- the row at a place is the next of what is left
-next : {B : Type 0} (p : Row B → Bool) (rows : List (Row B)) (place : ℕ) (row : Row B) (t : Bool) → place < length rows → row ≡ get_or rows place row → p row ≡ t
+next : {B : Type 0} (p : Row B → Bool) (rows : List (Row B)) (place : ℕ) (row : Row B) (t : Bool) → place < length rows → row ≡ get_or rows place row
+    → p row ≡ t
     → filter p (drop place rows) ≡ cond t (row ∷ filter p (drop (place + 1) rows)) (filter p (drop (place + 1) rows))
 next p rows place row t inside read is =
     ap (filter p) (drop_more rows place row inside ∙ ap (λ x. x ∷ drop (place + 1) rows) (sym read))
     ∙ ap (λ u. cond u (row ∷ filter p (drop (place + 1) rows)) (filter p (drop (place + 1) rows))) is
 
-pub none_yet : {B : Type 0} (prefix : List ℕ) (rows : List (Row B)) (start limit : ℕ) (entries : List Listed) → entries ≡ [] → SoFar prefix rows start limit entries start
+pub none_yet : {B : Type 0} (prefix : List ℕ) (rows : List (Row B)) (start limit : ℕ) (entries : List Listed) → entries ≡ []
+    → SoFar prefix rows start limit entries start
 none_yet prefix rows start limit entries empty = record { found = []; shown = empty; left = refl; short = omega arith }
 
-pub passed_over : {B : Type 0} (prefix : List ℕ) (rows : List (Row B)) (start limit place : ℕ) (entries : List Listed) (row : Row B) → SoFar prefix rows start limit entries place
+pub passed_over : {B : Type 0} (prefix : List ℕ) (rows : List (Row B)) (start limit place : ℕ) (entries : List Listed) (row : Row B)
+    → SoFar prefix rows start limit entries place
     → place < length rows → row ≡ get_or rows place row → has_prefix prefix row ≡ false → SoFar prefix rows start limit entries (place + 1)
 passed_over prefix rows start limit place entries row so inside read off = record {
   found = so.found;
@@ -48,8 +51,10 @@ passed_over prefix rows start limit place entries row so inside read off = recor
   short = so.short;
 }
 
-pub one_more : {B : Type 0} (prefix : List ℕ) (rows : List (Row B)) (start limit place : ℕ) (entries new : List Listed) (row : Row B) (entry : Listed) → SoFar prefix rows start limit entries place
-    → place < length rows → row ≡ get_or rows place row → has_prefix prefix row ≡ true → entry ≡ entry_of rows row → (length entries ≡ limit → ⊥) → new ≡ entries ++ entry ∷ [] → SoFar prefix rows start limit new (place + 1)
+pub one_more : {B : Type 0} (prefix : List ℕ) (rows : List (Row B)) (start limit place : ℕ) (entries new : List Listed) (row : Row B) (entry : Listed)
+    → SoFar prefix rows start limit entries place
+    → place < length rows → row ≡ get_or rows place row → has_prefix prefix row ≡ true → entry ≡ entry_of rows row → (length entries ≡ limit → ⊥)
+    → new ≡ entries ++ entry ∷ [] → SoFar prefix rows start limit new (place + 1)
 one_more prefix rows start limit place entries new row entry so inside read on made room pushed = record {
   found = so.found ++ row ∷ [];
   shown = pushed ∙ ap₂ (λ es e. es ++ e ∷ []) so.shown made ∙ sym (map-append (entry_of rows) so.found (row ∷ []));
@@ -61,12 +66,14 @@ one_more prefix rows start limit place entries new row entry so inside read on m
 
 -- ---- a page that is full, or that nothing is left for
 
-pub cut_page : {B : Type 0} (prefix : List ℕ) (rows : List (Row B)) (start limit place : ℕ) (entries : List Listed) (row : Row B) → SoFar prefix rows start limit entries place
+pub cut_page : {B : Type 0} (prefix : List ℕ) (rows : List (Row B)) (start limit place : ℕ) (entries : List Listed) (row : Row B)
+    → SoFar prefix rows start limit entries place
     → place < length rows → row ≡ get_or rows place row → has_prefix prefix row ≡ true → length entries ≡ limit
     → (let page : Listing = record { entries = entries; truncated = true } in page) ≡ page_of limit rows (filter (has_prefix prefix) (drop start rows))
 cut_page {B} prefix rows start limit place entries row so inside read on full =
     let rest = filter (has_prefix prefix) (drop (place + 1) rows) in
-    let all : filter (has_prefix prefix) (drop start rows) ≡ so.found ++ row ∷ rest = so.left ∙ ap (λ ys. so.found ++ ys) (next (has_prefix prefix) rows place row true inside read on) in
+    let all : filter (has_prefix prefix) (drop start rows) ≡ so.found ++ row ∷ rest =
+    so.left ∙ ap (λ ys. so.found ++ ys) (next (has_prefix prefix) rows place row true inside read on) in
     let long : length so.found ≡ limit = sym (length-map so.found (entry_of rows)) ∙ sym (ap length so.shown) ∙ full in
     let more : limit < length (so.found ++ row ∷ rest) = omega (arith, long, length-append so.found (row ∷ rest)) in
     ap₂ (λ es t. let page : Listing = record { entries = es; truncated = t } in page)
@@ -74,10 +81,12 @@ cut_page {B} prefix rows start limit place entries row so inside read on full =
     (sym (lt-ltb limit (length (so.found ++ row ∷ rest)) more))
     ∙ ap (page_of limit rows) (sym all)
 
-pub last_page : {B : Type 0} (prefix : List ℕ) (rows : List (Row B)) (start limit place : ℕ) (entries : List Listed) → SoFar prefix rows start limit entries place → drop place rows ≡ []
+pub last_page : {B : Type 0} (prefix : List ℕ) (rows : List (Row B)) (start limit place : ℕ) (entries : List Listed)
+    → SoFar prefix rows start limit entries place → drop place rows ≡ []
     → (let page : Listing = record { entries = entries; truncated = false } in page) ≡ page_of limit rows (filter (has_prefix prefix) (drop start rows))
 last_page prefix rows start limit place entries so none =
-    let all : filter (has_prefix prefix) (drop start rows) ≡ so.found = so.left ∙ ap (λ ys. so.found ++ filter (has_prefix prefix) ys) none ∙ append-nil so.found in
+    let all : filter (has_prefix prefix) (drop start rows) ≡ so.found =
+    so.left ∙ ap (λ ys. so.found ++ filter (has_prefix prefix) ys) none ∙ append-nil so.found in
     ap₂ (λ es t. let page : Listing = record { entries = es; truncated = t } in page)
     (so.shown ∙ ap (map (entry_of rows)) (sym (take_all limit so.found so.short)))
     (sym (le-ltb limit (length so.found) so.short))
@@ -87,18 +96,21 @@ filter-filter : {X : Type 0} (p q : X → Bool) (xs : List X) → filter q (filt
 filter-filter p q [] = refl
 filter-filter p q (x ∷ xs) = go (p x) (filter-filter p q xs)
   where
-    go : (t : Bool) → filter q (filter p xs) ≡ filter (λ x. p x && q x) xs → filter q (cond t (x ∷ filter p xs) (filter p xs)) ≡ cond (t && q x) (x ∷ filter (λ x. p x && q x) xs) (filter (λ x. p x && q x) xs)
+    go : (t : Bool) → filter q (filter p xs) ≡ filter (λ x. p x && q x) xs
+        → filter q (cond t (x ∷ filter p xs) (filter p xs)) ≡ cond (t && q x) (x ∷ filter (λ x. p x && q x) xs) (filter (λ x. p x && q x) xs)
     go true ih = ap (λ ys. cond (q x) (x ∷ ys) ys) ih
     go false ih = ih
 
 -- the rows with the prefix from where those after the place begin
-pub page-listing : {B : Type 0} (prefix : List ℕ) (place : Option Place) (limit start : ℕ) (rows : List (Row B)) → drop start rows ≡ filter (is_after place rows) rows
+pub page-listing : {B : Type 0} (prefix : List ℕ) (place : Option ListPosition) (limit start : ℕ) (rows : List (Row B))
+    → drop start rows ≡ filter (is_after place rows) rows
     → page_of limit rows (filter (has_prefix prefix) (drop start rows)) ≡ listing prefix place limit rows
 page-listing prefix place limit start rows from =
     ap (page_of limit rows)
     (ap (filter (has_prefix prefix)) from
     ∙ filter-filter (is_after place rows) (has_prefix prefix) rows
-    ∙ filter_agree (λ row. is_after place rows row && has_prefix prefix row) (λ row. has_prefix prefix row && is_after place rows row) (λ row. swap (is_after place rows row) (has_prefix prefix row)) rows)
+    ∙ filter_agree (λ row. is_after place rows row && has_prefix prefix row) (λ row. has_prefix prefix row && is_after place rows row)
+    (λ row. swap (is_after place rows row) (has_prefix prefix row)) rows)
   where
     swap : (a b : Bool) → (a && b) ≡ (b && a)
     swap true true = refl
@@ -108,7 +120,8 @@ page-listing prefix place limit start rows from =
 
 -- ---- what is listed
 
-pub lists_in_order : {B : Type 0} (prefix : List ℕ) (place : Option Place) (rows : List (Row B)) → is_listed rows ≡ true → is_listed (listed prefix place rows) ≡ true
+pub lists_in_order : {B : Type 0} (prefix : List ℕ) (place : Option ListPosition) (rows : List (Row B)) → is_listed rows ≡ true
+    → is_listed (listed prefix place rows) ≡ true
 lists_in_order prefix place rows up = pairs-filter comes_before (λ row. has_prefix prefix row && is_after place rows row) rows up
 
 -- what a filter leaves stood there and passes, and each that passes is left
@@ -122,7 +135,8 @@ filter-contains {X} p xs x = (out xs, λ both. into xs both.0 both.1)
         deeper : Contains ys x × (p x ≡ true) → Contains (y ∷ ys) x × (p x ≡ true)
         deeper both = ((suc both.0.0, omega arith, both.0.2), both.1)
 
-        go : (t : Bool) → p y ≡ t → Contains (cond t (y ∷ filter p ys) (filter p ys)) x → (Contains (filter p ys) x → Contains ys x × (p x ≡ true)) → Contains (y ∷ ys) x × (p x ≡ true)
+        go : (t : Bool) → p y ≡ t → Contains (cond t (y ∷ filter p ys) (filter p ys)) x → (Contains (filter p ys) x → Contains ys x × (p x ≡ true))
+            → Contains (y ∷ ys) x × (p x ≡ true)
         go true on (zero, lt, e) rest = ((zero, omega arith, e), ap p (sym e) ∙ on)
         go true on (suc k, lt, e) rest = deeper (rest (k, omega arith, e))
         go false off inside rest = deeper (rest inside)
@@ -137,7 +151,7 @@ filter-contains {X} p xs x = (out xs, λ both. into xs both.0 both.1)
         go true inside = (suc inside.0, omega arith, inside.2)
         go false inside = inside
 
-pub lists_those : {B : Type 0} (prefix : List ℕ) (place : Option Place) (rows : List (Row B)) (row : Row B)
+pub lists_those : {B : Type 0} (prefix : List ℕ) (place : Option ListPosition) (rows : List (Row B)) (row : Row B)
     → Contains (listed prefix place rows) row ↔ (Contains rows row × (has_prefix prefix row ≡ true) × (is_after place rows row ≡ true))
 lists_those {B} prefix place rows row =
     let passes : Row B → Bool = λ row. has_prefix prefix row && is_after place rows row in
@@ -154,7 +168,8 @@ map-contains f (y ∷ ys) x (zero, lt, e) = (zero, omega arith, ap f e)
 map-contains f (y ∷ ys) x (suc k, lt, e) = let h = map-contains f ys x (k, omega arith, e) in (suc h.0, omega arith, h.2)
 
 -- an element is among the first, or behind each of them
-among-first : {X : Type 0} (r : X → X → Bool) (n : ℕ) (xs : List X) (x : X) → all_pairs r xs ≡ true → Contains xs x → Contains (take n xs) x ⊎ ((nat_lt n (length xs) ≡ true) × (list_all (λ y. r y x) (take n xs) ≡ true))
+among-first : {X : Type 0} (r : X → X → Bool) (n : ℕ) (xs : List X) (x : X) → all_pairs r xs ≡ true → Contains xs x → Contains (take n xs) x
+    ⊎ ((nat_lt n (length xs) ≡ true) × (list_all (λ y. r y x) (take n xs) ≡ true))
 among-first r n [] x up (k, lt, e) = absurd (omega arith)
 among-first r zero (y ∷ ys) x up inside = inr (lt-ltb zero (suc (length ys)) (omega arith), refl)
 among-first r (suc n) (y ∷ ys) x up (zero, lt, e) = inl (zero, omega arith, e)
@@ -171,7 +186,8 @@ among-first r (suc n) (y ∷ ys) x up (suc k, lt, e) =
     all-at p (u ∷ us) z all (zero, lt, e) = ap p (sym e) ∙ (and_parts (p u) (list_all p us) all).0
     all-at p (u ∷ us) z all (suc k, lt, e) = all-at p us z (and_parts (p u) (list_all p us) all).1 (k, omega arith, e)
 
-pub lists_each : {B : Type 0} (prefix : List ℕ) (place : Option Place) (limit : ℕ) (rows : List (Row B)) (row : Row B) → is_listed rows ≡ true → Contains (listed prefix place rows) row
+pub lists_each : {B : Type 0} (prefix : List ℕ) (place : Option ListPosition) (limit : ℕ) (rows : List (Row B)) (row : Row B) → is_listed rows ≡ true
+    → Contains (listed prefix place rows) row
     → Contains (listing prefix place limit rows).entries (entry_of rows row)
     ⊎ (((listing prefix place limit rows).truncated ≡ true) × (list_all (λ other. comes_before other row) (take limit (listed prefix place rows)) ≡ true))
 lists_each prefix place limit rows row up inside =
@@ -184,7 +200,8 @@ lists_each prefix place limit rows row up inside =
 -- ---- one page after another
 
 -- the last of a list that is mapped
-last_of : {X Y : Type 0} (f : X → Y) (xs : List X) (front : List Y) (last : Y) → map f xs ≡ front ++ last ∷ [] → (before : List X) × (x : X) × (xs ≡ before ++ x ∷ []) × (f x ≡ last)
+last_of : {X Y : Type 0} (f : X → Y) (xs : List X) (front : List Y) (last : Y) → map f xs ≡ front ++ last ∷ [] → (before : List X) × (x : X)
+    × (xs ≡ before ++ x ∷ []) × (f x ≡ last)
 last_of f [] front last h = absurd (omega (arith, ap length h, length-append front (last ∷ [])))
 last_of f (y ∷ []) [] last h = ([], y, refl, cc)
 last_of f (y ∷ []) (z ∷ zs) last h = absurd (omega (arith, ap length h, length-append (z ∷ zs) (last ∷ [])))
@@ -216,7 +233,8 @@ any-weaker p q (x ∷ xs) weaker h =
     ]
 
 -- what stands behind a row that is after a place is after it too
-after_onward : {B : Type 0} (place : Option Place) (rows : List (Row B)) (a b : Row B) → comes_before a b ≡ true → is_after place rows a ≡ true → is_after place rows b ≡ true
+after_onward : {B : Type 0} (place : Option ListPosition) (rows : List (Row B)) (a b : Row B) → comes_before a b ≡ true → is_after place rows a ≡ true
+    → is_after place rows b ≡ true
 after_onward None rows a b before h = refl
 after_onward {B} (Some place) rows a b before h = go place.id h
   where
@@ -228,7 +246,8 @@ after_onward {B} (Some place) rows a b before h = go place.id h
         and_from _ _ parts.0 (before_trans named a b parts.1 before)) behind
 
 -- a row is the first of its version
-own_first : {B : Type 0} (rows : List (Row B)) (x : Row B) → has_each_once rows ≡ true → Contains rows x → (i : ℕ) × (f : First (is_version x.key x.id) rows i) × (f.here.at ≡ x)
+own_first : {B : Type 0} (rows : List (Row B)) (x : Row B) → has_each_once rows ≡ true → Contains rows x → (i : ℕ)
+    × (f : First (is_version x.key x.id) rows i) × (f.here.at ≡ x)
 own_first {B} rows x once (k, lt, e) = (k, record { here = a; passes = ap (is_version x.key x.id) same ∙ is_own_version x; none = go a.before apart }, same)
   where
     a : Around rows k
@@ -249,13 +268,15 @@ own_first {B} rows x once (k, lt, e) = (k, record { here = a; passes = ap (is_ve
         and_from _ _ (ap not (version_sym x y) ∙ parts.0) (go ys parts.1)
 
 -- a row that is listed
-listed-parts : {B : Type 0} (prefix : List ℕ) (place : Option Place) (rows before behind : List (Row B)) (x : Row B) → listed prefix place rows ≡ before ++ x ∷ behind
+listed-parts : {B : Type 0} (prefix : List ℕ) (place : Option ListPosition) (rows before behind : List (Row B)) (x : Row B)
+    → listed prefix place rows ≡ before ++ x ∷ behind
     → Contains rows x × (has_prefix prefix x ≡ true) × (is_after place rows x ≡ true)
 listed-parts prefix place rows before behind x split =
     (lists_those prefix place rows x).0 (subst (λ ys. Contains ys x) (sym split) (Contains-append_right before (x ∷ behind) x (zero, omega arith, refl)))
 
 -- what is listed after a listed row is what follows it there
-listed-after : {B : Type 0} (prefix : List ℕ) (place : Option Place) (rows before behind : List (Row B)) (x : Row B) → is_listed rows ≡ true → has_each_once rows ≡ true
+listed-after : {B : Type 0} (prefix : List ℕ) (place : Option ListPosition) (rows before behind : List (Row B)) (x : Row B) → is_listed rows ≡ true
+    → has_each_once rows ≡ true
     → listed prefix place rows ≡ before ++ x ∷ behind → listed prefix (Some (record { key = x.key; id = Some x.id })) rows ≡ behind
 listed-after {B} prefix place rows before behind x up once split =
     filter_agree _ (λ row. passes row && comes_before x row) agree rows
@@ -281,10 +302,11 @@ listed-after {B} prefix place rows before behind x up once split =
 
     agree : (row : Row B) → (has_prefix prefix row && is_behind x.key (Some x.id) rows row) ≡ (passes row && comes_before x row)
     agree row =
-        ap (λ t. has_prefix prefix row && t) (only_named x.key x.id rows named.0 named.1 once (λ z. comes_before z row) ∙ ap (λ (z : Row B). comes_before z row) named.2)
+        ap (λ t. has_prefix prefix row && t) (only_named x.key x.id rows named.0 named.1 once (λ z. comes_before z row)
+        ∙ ap (λ (z : Row B). comes_before z row) named.2)
         ∙ absorb (has_prefix prefix row) (is_after place rows row) (comes_before x row) (λ before. after_onward place rows x row before inside.2)
 
-pub pages_follow : {B : Type 0} (prefix : List ℕ) (place : Option Place) (limit more : ℕ) (rows : List (Row B)) (front : List Listed) (last : Listed)
+pub pages_follow : {B : Type 0} (prefix : List ℕ) (place : Option ListPosition) (limit more : ℕ) (rows : List (Row B)) (front : List Listed) (last : Listed)
     → is_listed rows ≡ true → has_each_once rows ≡ true
     → (listing prefix place limit rows).entries ≡ front ++ last ∷ []
     → (is_place_there (Some (place_of last)) rows ≡ true)

@@ -70,7 +70,8 @@ position-cons p x xs = go (p x)
         let past : nat_lt (1 + n) (suc (length xs)) ≡ false = grind (arith, nat_tests) in
         ap (λ t. cond t (Some (1 + n)) None) past
 
-    go : (t : Bool) → cond (nat_lt (cond (not t) (1 + n) 0) (suc (length xs))) (Some (cond (not t) (1 + n) 0)) None ≡ cond t (Some 0) (option_map suc (position p xs))
+    go : (t : Bool) → cond (nat_lt (cond (not t) (1 + n) 0) (suc (length xs))) (Some (cond (not t) (1 + n) 0)) None ≡ cond t (Some 0)
+        (option_map suc (position p xs))
     go true = ap (λ t. cond t (Some 0) None) (lt-ltb 0 (suc (length xs)) (omega arith))
     go false = more (nat_lt n (length xs)) refl
 
@@ -126,7 +127,8 @@ find_there p xs (Some i) h = sym (ap is_some (find-first p xs i (first_at p xs i
 -- ---- a row of a version among rows of which no two are of one
 
 -- each element against those around it
-pub pairs-around : {X : Type 0} (r : X → X → Bool) (xs : List X) (x : X) (ys : List X) → all_pairs r (xs ++ x ∷ ys) ≡ true → (list_all (λ y. r y x) xs ≡ true) × (list_all (r x) ys ≡ true)
+pub pairs-around : {X : Type 0} (r : X → X → Bool) (xs : List X) (x : X) (ys : List X) → all_pairs r (xs ++ x ∷ ys) ≡ true → (list_all (λ y. r y x) xs ≡ true)
+    × (list_all (r x) ys ≡ true)
 pairs-around r [] x ys all = (refl, (and_parts (list_all (r x) ys) (all_pairs r ys) all).0)
 pairs-around r (z ∷ zs) x ys all =
     let parts = and_parts (list_all (r z) (zs ++ x ∷ ys)) (all_pairs r (zs ++ x ∷ ys)) all in
@@ -138,18 +140,22 @@ pairs-around r (z ∷ zs) x ys all =
     reach (u ∷ us) h = reach us (and_parts (r z u) (list_all (r z) (us ++ x ∷ ys)) h).1
 
 -- no row behind one is of its version
-pub none_behind : {B : Type 0} (key : List ℕ) (id : VersionId) (rows : List (Row B)) (i : ℕ) (f : First (is_version key id) rows i) → has_each_once rows ≡ true → list_all (λ row. not (is_version key id row)) f.here.behind ≡ true
+pub none_behind : {B : Type 0} (key : List ℕ) (id : VersionId) (rows : List (Row B)) (i : ℕ) (f : First (is_version key id) rows i)
+    → has_each_once rows ≡ true → list_all (λ row. not (is_version key id row)) f.here.behind ≡ true
 none_behind {B} key id rows i f once =
-    go f.here.behind (pairs-around (λ row other. not (is_version row.key row.id other)) f.here.before f.here.at f.here.behind (sym (ap has_each_once f.here.is) ∙ once)).1
+    go f.here.behind (pairs-around (λ row other. not (is_version row.key row.id other)) f.here.before f.here.at f.here.behind
+    (sym (ap has_each_once f.here.is) ∙ once)).1
   where
-    go : (ys : List (Row B)) → list_all (λ other. not (is_version f.here.at.key f.here.at.id other)) ys ≡ true → list_all (λ row. not (is_version key id row)) ys ≡ true
+    go : (ys : List (Row B)) → list_all (λ other. not (is_version f.here.at.key f.here.at.id other)) ys ≡ true
+        → list_all (λ row. not (is_version key id row)) ys ≡ true
     go [] h = refl
     go (y ∷ ys) h =
         let parts = and_parts (not (is_version f.here.at.key f.here.at.id y)) (list_all (λ other. not (is_version f.here.at.key f.here.at.id other)) ys) h in
         and_from _ _ (ap not (sym (version_like key id f.here.at y f.passes)) ∙ parts.0) (go ys parts.1)
 
 -- rows that aren't of a version stay as they are
-pub on_none : {B : Type 0} (key : List ℕ) (id : VersionId) (f : Row B → Row B) (rows : List (Row B)) → list_all (λ row. not (is_version key id row)) rows ≡ true → on_version key id f rows ≡ rows
+pub on_none : {B : Type 0} (key : List ℕ) (id : VersionId) (f : Row B → Row B) (rows : List (Row B))
+    → list_all (λ row. not (is_version key id row)) rows ≡ true → on_version key id f rows ≡ rows
 on_none key id f [] none = refl
 on_none key id f (x ∷ xs) none =
     let parts = and_parts (not (is_version key id x)) (list_all (λ row. not (is_version key id row)) xs) none in
@@ -178,4 +184,5 @@ remove-is {B} key id rows i once at =
     ∙ sym (ap (filter p) here.is
     ∙ filter-append p here.before (here.at ∷ here.behind)
     ∙ ap₂ (λ ys zs. ys ++ zs) (filter_all p here.before found.none)
-    (ap (λ t. cond (not t) (here.at ∷ filter p here.behind) (filter p here.behind)) found.passes ∙ filter_all p here.behind (none_behind key id rows i found once)))
+    (ap (λ t. cond (not t) (here.at ∷ filter p here.behind) (filter p here.behind)) found.passes
+    ∙ filter_all p here.behind (none_behind key id rows i found once)))

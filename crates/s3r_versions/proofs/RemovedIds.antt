@@ -36,7 +36,8 @@ stays_rising id (x ∷ xs) up = go (is_id_before x id) (id_eq x id) refl refl (s
     parts : (list_all (is_id_before x) xs ≡ true) × (is_rising xs ≡ true)
     parts = and_parts (list_all (is_id_before x) xs) (is_rising xs) up
 
-    go : (t u : Bool) → is_id_before x id ≡ t → id_eq x id ≡ u → is_rising (with_id id xs) ≡ true → is_rising (cond t (x ∷ with_id id xs) (cond u (x ∷ xs) (id ∷ x ∷ xs))) ≡ true
+    go : (t u : Bool) → is_id_before x id ≡ t → id_eq x id ≡ u → is_rising (with_id id xs) ≡ true
+        → is_rising (cond t (x ∷ with_id id xs) (cond u (x ∷ xs) (id ∷ x ∷ xs))) ≡ true
     go true u h e ih = and_from _ _ (all-with_id (is_id_before x) id xs h parts.0) ih
     go false true h e ih = up
     go false false h e ih =
@@ -96,7 +97,8 @@ keeps_id_once id (x ∷ xs) up there = go (is_id_before x id) (id_eq x id) refl 
     go false false h e w rest = absurd (true≢false (sym (before_those x id xs parts.0 w) ∙ h))
 
 -- an insert of an id that isn't there, at the first that isn't below it or at the end
-insert-is : (id : VersionId) (ids : List VersionId) → was_removed id ids ≡ false → insert ids (position_or_len (λ other. not (is_id_before other id)) ids) id ≡ with_id id ids
+insert-is : (id : VersionId) (ids : List VersionId) → was_removed id ids ≡ false
+    → insert ids (position_or_len (λ other. not (is_id_before other id)) ids) id ≡ with_id id ids
 insert-is id [] new = refl
 insert-is id (x ∷ xs) new = go (is_id_before x id) (insert-is id xs news.1)
   where
@@ -104,14 +106,16 @@ insert-is id (x ∷ xs) new = go (is_id_before x id) (insert-is id xs news.1)
     news = or_parts (id_eq x id) (was_removed id xs) new
 
     go : (t : Bool) → insert xs (position_or_len (λ other. not (is_id_before other id)) xs) id ≡ with_id id xs
-        → insert (x ∷ xs) (cond (not (not t)) (1 + position_or_len (λ other. not (is_id_before other id)) xs) 0) id ≡ cond t (x ∷ with_id id xs) (cond (id_eq x id) (x ∷ xs) (id ∷ x ∷ xs))
+        → insert (x ∷ xs) (cond (not (not t)) (1 + position_or_len (λ other. not (is_id_before other id)) xs) 0) id ≡ cond t (x ∷ with_id id xs)
+        (cond (id_eq x id) (x ∷ xs) (id ∷ x ∷ xs))
     go true ih =
         let n = position_or_len (λ (other : VersionId). not (is_id_before other id)) xs in
         let one : 1 + n ≡ suc n = omega arith in
         ap (λ k. insert (x ∷ xs) k id) one ∙ ap (λ ys. x ∷ ys) ih
     go false ih = sym (ap (λ t. cond t (x ∷ xs) (id ∷ x ∷ xs)) news.0)
 
-pub id_goes_to : (id : VersionId) (ids : List VersionId) (i : ℕ) → was_removed id ids ≡ false → i ≡ unwrap_or (position (λ other. not (is_id_before other id)) ids) (length ids) → insert ids i id ≡ with_id id ids
+pub id_goes_to : (id : VersionId) (ids : List VersionId) (i : ℕ) → was_removed id ids ≡ false
+    → i ≡ unwrap_or (position (λ other. not (is_id_before other id)) ids) (length ids) → insert ids i id ≡ with_id id ids
 id_goes_to id ids i new h = ap (λ k. insert ids k id) (h ∙ place-is (λ other. not (is_id_before other id)) ids) ∙ insert-is id ids new
 
 -- ---- the next of them
@@ -119,7 +123,8 @@ id_goes_to id ids i new h = ap (λ k. insert ids k id) (h ∙ place-is (λ other
 pub least_is_found : (id : Option VersionId) (ids : List VersionId) → is_rising ids ≡ true
     → MatchOption (removed_after id ids)
     ((other : VersionId) → Contains ids other → is_id_above id other ≡ false)
-    (λ found. Contains ids found × (is_id_above id found ≡ true) × ((other : VersionId) → Contains ids other → is_id_above id other ≡ true → is_id_before other found ≡ false))
+    (λ found. Contains ids found × (is_id_above id found ≡ true) × ((other : VersionId) → Contains ids other → is_id_above id other ≡ true
+    → is_id_before other found ≡ false))
 least_is_found id [] up = λ other inside. absurd (nothing other inside)
   where
     nothing : (other : VersionId) → Contains [] other → ⊥
@@ -140,17 +145,21 @@ least_is_found id (x ∷ xs) up = go (is_id_above id x) refl (find (is_id_above 
     first other (suc k, lt, e) = not_below xs parts.0 other (k, omega arith, e)
 
     -- what holds of each of the rest that is above the id, where x isn't
-    later : {P : VersionId → Type 0} → is_id_above id x ≡ false → ((other : VersionId) → Contains xs other → is_id_above id other ≡ true → P other) → (other : VersionId) → Contains (x ∷ xs) other → is_id_above id other ≡ true → P other
+    later : {P : VersionId → Type 0} → is_id_above id x ≡ false → ((other : VersionId) → Contains xs other → is_id_above id other ≡ true → P other)
+        → (other : VersionId) → Contains (x ∷ xs) other → is_id_above id other ≡ true → P other
     later off each other (zero, lt, e) above = absurd (true≢false (sym above ∙ ap (is_id_above id) (sym e) ∙ off))
     later off each other (suc k, lt, e) above = each other (k, omega arith, e) above
 
     go : (t : Bool) → is_id_above id x ≡ t → (o : Option VersionId)
         → MatchOption o ((other : VersionId) → Contains xs other → is_id_above id other ≡ false)
-        (λ found. Contains xs found × (is_id_above id found ≡ true) × ((other : VersionId) → Contains xs other → is_id_above id other ≡ true → is_id_before other found ≡ false))
+        (λ found. Contains xs found × (is_id_above id found ≡ true) × ((other : VersionId) → Contains xs other → is_id_above id other ≡ true
+        → is_id_before other found ≡ false))
         → MatchOption (cond t (Some x) o) ((other : VersionId) → Contains (x ∷ xs) other → is_id_above id other ≡ false)
-        (λ found. Contains (x ∷ xs) found × (is_id_above id found ≡ true) × ((other : VersionId) → Contains (x ∷ xs) other → is_id_above id other ≡ true → is_id_before other found ≡ false))
+        (λ found. Contains (x ∷ xs) found × (is_id_above id found ≡ true)
+        × ((other : VersionId) → Contains (x ∷ xs) other → is_id_above id other ≡ true → is_id_before other found ≡ false))
     go true h o ih = ((zero, omega arith, refl), h, λ other inside above. first other inside)
     go false h None ih =
-        λ other inside. false_from_ne_true (is_id_above id other) (λ above. later {P = λ _. ⊥} h (λ z there on. true≢false (sym on ∙ ih z there)) other inside above)
+        λ other inside. false_from_ne_true (is_id_above id other) (λ above. later {P = λ _. ⊥} h
+        (λ z there on. true≢false (sym on ∙ ih z there)) other inside above)
     go false h (Some found) ih =
         ((suc ih.0.0, omega arith, ih.0.2), ih.1, later h (λ z there on. ih.2 z there on))

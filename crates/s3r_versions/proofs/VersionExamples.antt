@@ -101,10 +101,12 @@ entry row latest = record { key = row.key; id = row.id; latest = latest; marker 
 first_page : listing [] None 2 (newest ∷ newer ∷ older ∷ other ∷ []) ≡ record { entries = entry newest true ∷ entry newer false ∷ []; truncated = true }
 first_page = refl
 
-after_version : listing [] (Some (record { key = codes "a"; id = Some newer.id })) 2 (newest ∷ newer ∷ older ∷ other ∷ []) ≡ record { entries = entry older false ∷ entry other true ∷ []; truncated = false }
+after_version : listing [] (Some (record { key = codes "a"; id = Some newer.id })) 2
+    (newest ∷ newer ∷ older ∷ other ∷ []) ≡ record { entries = entry older false ∷ entry other true ∷ []; truncated = false }
 after_version = refl
 
-after_key : listing (codes "a") (Some (record { key = codes "a"; id = None })) 2 (newest ∷ newer ∷ older ∷ other ∷ []) ≡ record { entries = entry other true ∷ []; truncated = false }
+after_key : listing (codes "a") (Some (record { key = codes "a"; id = None })) 2
+    (newest ∷ newer ∷ older ∷ other ∷ []) ≡ record { entries = entry other true ∷ []; truncated = false }
 after_key = refl
 
 no_place : is_place_there (Some (record { key = codes "ab"; id = Some newer.id })) (newest ∷ newer ∷ other ∷ []) ≡ false

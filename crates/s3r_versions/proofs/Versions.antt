@@ -24,7 +24,8 @@ pub names_itself : (key : List ℕ) (id : VersionId) → (bytes_eq key key && id
 names_itself key id = and_from _ _ ((bytes_eq-Decides key key).1 refl) (id_itself id)
 
 -- rows are asked for a version as for that of a row that is it
-pub version_like : {B : Type 0} (key : List ℕ) (id : VersionId) (row other : Row B) → is_version key id row ≡ true → is_version row.key row.id other ≡ is_version key id other
+pub version_like : {B : Type 0} (key : List ℕ) (id : VersionId) (row other : Row B) → is_version key id row ≡ true
+    → is_version row.key row.id other ≡ is_version key id other
 version_like key id row other h =
     let names = names_are row.key key row.id id h in
     ap₂ (λ k i. is_version k i other) names.0 names.1
@@ -43,7 +44,8 @@ version_sym a b = go (is_version a.key a.id b) (is_version b.key b.id a) (turn a
     go false false f g = refl
 
 -- no row is two versions
-pub other_version : {B : Type 0} (key k : List ℕ) (id i : VersionId) (row : Row B) → (bytes_eq key k && id_eq id i) ≡ false → is_version k i row ≡ true → is_version key id row ≡ false
+pub other_version : {B : Type 0} (key k : List ℕ) (id i : VersionId) (row : Row B) → (bytes_eq key k && id_eq id i) ≡ false → is_version k i row ≡ true
+    → is_version key id row ≡ false
 other_version key k id i row other this = go (is_version key id row) refl
   where
     go : (t : Bool) → is_version key id row ≡ t → t ≡ false
@@ -51,4 +53,5 @@ other_version key k id i row other this = go (is_version key id row) refl
     go true h =
         let a = names_are row.key key row.id id h in
         let b = names_are row.key k row.id i this in
-        absurd (true≢false (sym (names_itself row.key row.id) ∙ ap₂ (λ x y. bytes_eq x row.key && id_eq y row.id) a.0 a.1 ∙ ap₂ (λ x y. bytes_eq key x && id_eq id y) b.0 b.1 ∙ other))
+        absurd (true≢false (sym (names_itself row.key row.id) ∙ ap₂ (λ x y. bytes_eq x row.key && id_eq y row.id) a.0 a.1
+        ∙ ap₂ (λ x y. bytes_eq key x && id_eq id y) b.0 b.1 ∙ other))

@@ -19,7 +19,8 @@ record IsWrite {R X : Type 0} (at : R → Stamp) (put : Stamp → X → R → R)
 abbrev write : {R X : Type 0} → (R → Stamp) → (Stamp → X → R → R) → Stamp → X → R → R
 write at put s x r = cond (is_before (at r) s) (put s x r) r
 
-greater_last : {R X : Type 0} (at : R → Stamp) (put : Stamp → X → R → R) (is : IsWrite at put) (s t : Stamp) (x y : X) (r : R) → is_before s t ≡ true → write at put t y (write at put s x r) ≡ write at put t y r
+greater_last : {R X : Type 0} (at : R → Stamp) (put : Stamp → X → R → R) (is : IsWrite at put) (s t : Stamp) (x y : X) (r : R) → is_before s t ≡ true
+    → write at put t y (write at put s x r) ≡ write at put t y r
 greater_last at put is s t x y r less = go (is_before (at r) s) refl
   where
     go : (u : Bool) → is_before (at r) s ≡ u → write at put t y (cond u (put s x r) r) ≡ write at put t y r
@@ -30,7 +31,8 @@ greater_last at put is s t x y r less = go (is_before (at r) s) refl
         ∙ is.again s t x y r
         ∙ sym (ap (λ u. cond u (put t y r) r) (less_trans stamp_order (at r) s t h less))
 
-greater_first : {R X : Type 0} (at : R → Stamp) (put : Stamp → X → R → R) (is : IsWrite at put) (s t : Stamp) (x y : X) (r : R) → is_before s t ≡ true → write at put s x (write at put t y r) ≡ write at put t y r
+greater_first : {R X : Type 0} (at : R → Stamp) (put : Stamp → X → R → R) (is : IsWrite at put) (s t : Stamp) (x y : X) (r : R) → is_before s t ≡ true
+    → write at put s x (write at put t y r) ≡ write at put t y r
 greater_first at put is s t x y r less = go (is_before (at r) t) refl
   where
     go : (u : Bool) → is_before (at r) t ≡ u → write at put s x (cond u (put t y r) r) ≡ cond u (put t y r) r
@@ -41,7 +43,8 @@ greater_first at put is s t x y r less = go (is_before (at r) t) refl
         let off = false_from_ne_true (is_before (at r) s) (λ e. true≢false (sym (less_trans stamp_order (at r) s t e less) ∙ h)) in
         ap (λ u. cond u (put s x r) r) off
 
-first_stays : {R X : Type 0} (at : R → Stamp) (put : Stamp → X → R → R) (is : IsWrite at put) (s : Stamp) (x y : X) (r : R) → write at put s y (write at put s x r) ≡ write at put s x r
+first_stays : {R X : Type 0} (at : R → Stamp) (put : Stamp → X → R → R) (is : IsWrite at put) (s : Stamp) (x y : X) (r : R)
+    → write at put s y (write at put s x r) ≡ write at put s x r
 first_stays at put is s x y r = go (is_before (at r) s) refl
   where
     go : (u : Bool) → is_before (at r) s ≡ u → write at put s y (cond u (put s x r) r) ≡ cond u (put s x r) r
@@ -53,7 +56,8 @@ first_stays at put is s x y r = go (is_before (at r) s) refl
 -- ---- in rows
 
 -- a change after another comes to a third in rows where it does in each
-pub changes_join : {B : Type 0} (key : List ℕ) (id : VersionId) (f g h : Row B → Row B) → KeepsPlace f → ((row : Row B) → g (f row) ≡ h row) → (rows : List (Row B)) → on_version key id g (on_version key id f rows) ≡ on_version key id h rows
+pub changes_join : {B : Type 0} (key : List ℕ) (id : VersionId) (f g h : Row B → Row B) → KeepsPlace f → ((row : Row B) → g (f row) ≡ h row)
+    → (rows : List (Row B)) → on_version key id g (on_version key id f rows) ≡ on_version key id h rows
 changes_join key id f g h keeps joins [] = refl
 changes_join {B} key id f g h keeps joins (x ∷ xs) = ap₂ (λ y ys. y ∷ ys) (first (is_version key id x) refl) (changes_join key id f g h keeps joins xs)
   where
@@ -71,16 +75,20 @@ pub greater_tags_win : {B : Type 0} (key : List ℕ) (id : VersionId) (s t : Sta
     → (on_version key id (with_tags t b) (on_version key id (with_tags s a) rows) ≡ on_version key id (with_tags t b) rows)
     × (on_version key id (with_tags s a) (on_version key id (with_tags t b) rows) ≡ on_version key id (with_tags t b) rows)
 greater_tags_win key id s t a b rows less = (
-  changes_join key id (with_tags s a) (with_tags t b) (with_tags t b) ((writes_keep_places s).0 a) (λ row. greater_last _ _ tags_are_written s t a b row less) rows,
-  changes_join key id (with_tags t b) (with_tags s a) (with_tags t b) ((writes_keep_places t).0 b) (λ row. greater_first _ _ tags_are_written s t a b row less) rows,
+  changes_join key id (with_tags s a) (with_tags t b) (with_tags t b) ((writes_keep_places s).0 a)
+      (λ row. greater_last _ _ tags_are_written s t a b row less) rows,
+  changes_join key id (with_tags t b) (with_tags s a) (with_tags t b) ((writes_keep_places t).0 b)
+      (λ row. greater_first _ _ tags_are_written s t a b row less) rows,
 )
 
 pub greater_hold_wins : {B : Type 0} (key : List ℕ) (id : VersionId) (s t : Stamp) (a b : Bool) (rows : List (Row B)) → is_before s t ≡ true
     → (on_version key id (with_hold t b) (on_version key id (with_hold s a) rows) ≡ on_version key id (with_hold t b) rows)
     × (on_version key id (with_hold s a) (on_version key id (with_hold t b) rows) ≡ on_version key id (with_hold t b) rows)
 greater_hold_wins key id s t a b rows less = (
-  changes_join key id (with_hold s a) (with_hold t b) (with_hold t b) ((writes_keep_places s).1 a) (λ row. greater_last _ _ hold_is_written s t a b row less) rows,
-  changes_join key id (with_hold t b) (with_hold s a) (with_hold t b) ((writes_keep_places t).1 b) (λ row. greater_first _ _ hold_is_written s t a b row less) rows,
+  changes_join key id (with_hold s a) (with_hold t b) (with_hold t b) ((writes_keep_places s).1 a)
+      (λ row. greater_last _ _ hold_is_written s t a b row less) rows,
+  changes_join key id (with_hold t b) (with_hold s a) (with_hold t b) ((writes_keep_places t).1 b)
+      (λ row. greater_first _ _ hold_is_written s t a b row less) rows,
 )
 
 pub first_tags_stay : {B : Type 0} (key : List ℕ) (id : VersionId) (s : Stamp) (a b : List Tag) (rows : List (Row B))

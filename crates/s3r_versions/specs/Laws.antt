@@ -37,7 +37,8 @@ StaysListed B = (row : Row B) (rows : List (Row B)) → is_listed rows ≡ true 
 
 -- and no two are of one version then
 abbrev pub StaysOnce : Type 0 → Type 0
-StaysOnce B = (row : Row B) (rows : List (Row B)) → has_each_once rows ≡ true → find_version row.key row.id rows ≡ None → has_each_once (with_row row rows) ≡ true
+StaysOnce B = (row : Row B) (rows : List (Row B)) → has_each_once rows ≡ true → find_version row.key row.id rows ≡ None
+    → has_each_once (with_row row rows) ≡ true
 
 -- there are the same rows and this one
 abbrev pub AddsOne : Type 0 → Type 0
@@ -48,7 +49,8 @@ abbrev pub FindsIt : Type 0 → Type 0
 FindsIt B = (row : Row B) (rows : List (Row B)) → find_version row.key row.id rows ≡ None → find_version row.key row.id (with_row row rows) ≡ Some row
 
 abbrev pub FindsOthers : Type 0 → Type 0
-FindsOthers B = (row : Row B) (rows : List (Row B)) (key : List ℕ) (id : VersionId) → is_version key id row ≡ false → find_version key id (with_row row rows) ≡ find_version key id rows
+FindsOthers B = (row : Row B) (rows : List (Row B)) (key : List ℕ) (id : VersionId) → is_version key id row ≡ false
+    → find_version key id (with_row row rows) ≡ find_version key id rows
 
 -- ---- a version is removed
 
@@ -77,7 +79,8 @@ ChangeFinds B = (key k : List ℕ) (id i : VersionId) (f : Row B → Row B) (row
     → find_version k i (on_version key id f rows) ≡ option_map (if_version key id f) (find_version k i rows)
 
 abbrev pub WritesKeepPlaces : Type 0 → Type 0
-WritesKeepPlaces B = (stamp : Stamp) → ((tags : List Tag) → KeepsPlace (with_tags {B = B} stamp tags)) × ((hold : Bool) → KeepsPlace (with_hold {B = B} stamp hold))
+WritesKeepPlaces B = (stamp : Stamp) → ((tags : List Tag) → KeepsPlace (with_tags {B = B} stamp tags))
+    × ((hold : Bool) → KeepsPlace (with_hold {B = B} stamp hold))
 
 -- of two writes the one of the greater stamp wins, whatever their order
 abbrev pub GreaterTagsWin : Type 0 → Type 0
@@ -103,11 +106,13 @@ FirstHoldStays B = (key : List ℕ) (id : VersionId) (s : Stamp) (a b : Bool) (r
 
 -- rows are changed before one is added, or after
 abbrev pub AddingCommutesWithChange : Type 0 → Type 0 → Type 0
-AddingCommutesWithChange A B = (f : Row A → Row B) (row : Row A) (rows : List (Row A)) → KeepsPlace f → map f (with_row row rows) ≡ with_row (f row) (map f rows)
+AddingCommutesWithChange A B = (f : Row A → Row B) (row : Row A) (rows : List (Row A)) → KeepsPlace f
+    → map f (with_row row rows) ≡ with_row (f row) (map f rows)
 
 -- rows are changed before a version is removed, or after
 abbrev pub RemovalCommutesWithChange : Type 0 → Type 0 → Type 0
-RemovalCommutesWithChange A B = (f : Row A → Row B) (key : List ℕ) (id : VersionId) (rows : List (Row A)) → KeepsPlace f → without_version key id (map f rows) ≡ map f (without_version key id rows)
+RemovalCommutesWithChange A B = (f : Row A → Row B) (key : List ℕ) (id : VersionId) (rows : List (Row A)) → KeepsPlace f
+    → without_version key id (map f rows) ≡ map f (without_version key id rows)
 
 -- rows are left out before one is added, or after
 abbrev pub AddingCommutesWithChoice : Type 0 → Type 0
@@ -133,4 +138,5 @@ abbrev pub LeastIsFound : Type 0
 LeastIsFound = (id : Option VersionId) (ids : List VersionId) → is_rising ids ≡ true
     → MatchOption (removed_after id ids)
     ((other : VersionId) → Contains ids other → is_id_above id other ≡ false)
-    (λ found. Contains ids found × (is_id_above id found ≡ true) × ((other : VersionId) → Contains ids other → is_id_above id other ≡ true → is_id_before other found ≡ false))
+    (λ found. Contains ids found × (is_id_above id found ≡ true) × ((other : VersionId) → Contains ids other → is_id_above id other ≡ true
+    → is_id_before other found ≡ false))

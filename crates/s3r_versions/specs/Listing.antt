@@ -5,7 +5,7 @@ use Rattle.std.specs.Ordering.{nat_cmp, is_lt}
 use Rattle.std.specs.Cmp.Lexicographic.{slice_cmp}
 use Rattle.s3r_names.specs.declared.version.VersionId.{VersionId}
 use Rattle.s3r_versions.specs.declared.row.Row.{Row}
-use Rattle.s3r_versions.specs.declared.listing.Place.{Place}
+use Rattle.s3r_versions.specs.declared.listing.ListPosition.{ListPosition}
 use Rattle.s3r_versions.specs.declared.listing.Listed.{Listed}
 use Rattle.s3r_versions.specs.declared.listing.Listing.{Listing}
 use Rattle.s3r_versions.specs.Order.{comes_before}
@@ -20,7 +20,7 @@ abbrev pub is_version_there : {B : Type 0} → List ℕ → Option VersionId →
 is_version_there key None rows = true
 is_version_there key (Some id) rows = list_any (is_version key id) rows
 
-abbrev pub is_place_there : {B : Type 0} → Option Place → List (Row B) → Bool
+abbrev pub is_place_there : {B : Type 0} → Option ListPosition → List (Row B) → Bool
 is_place_there None rows = true
 is_place_there (Some place) rows = is_version_there place.key place.id rows
 
@@ -29,12 +29,12 @@ abbrev pub is_behind : {B : Type 0} → List ℕ → Option VersionId → List (
 is_behind key None rows row = is_lt (slice_cmp nat_cmp key row.key)
 is_behind key (Some id) rows row = list_any (λ named. is_version key id named && comes_before named row) rows
 
-abbrev pub is_after : {B : Type 0} → Option Place → List (Row B) → Row B → Bool
+abbrev pub is_after : {B : Type 0} → Option ListPosition → List (Row B) → Row B → Bool
 is_after None rows row = true
 is_after (Some place) rows row = is_behind place.key place.id rows row
 
 -- the rows with the prefix that stand after the place
-abbrev pub listed : {B : Type 0} → List ℕ → Option Place → List (Row B) → List (Row B)
+abbrev pub listed : {B : Type 0} → List ℕ → Option ListPosition → List (Row B) → List (Row B)
 listed prefix place rows = filter (λ row. has_prefix prefix row && is_after place rows row) rows
 
 -- a row as a listing shows it
@@ -56,5 +56,5 @@ page_of limit rows found = record {
 }
 
 -- the first rows with the prefix after the place
-abbrev pub listing : {B : Type 0} → List ℕ → Option Place → ℕ → List (Row B) → Listing
+abbrev pub listing : {B : Type 0} → List ℕ → Option ListPosition → ℕ → List (Row B) → Listing
 listing prefix place limit rows = page_of limit rows (listed prefix place rows)

@@ -11,6 +11,6 @@ pub use laws::{
     changes_keep_order, greater_stamp_wins, order_of_changes_is_free, pages_are_complete,
     removed_ids_rise, rows_are_ordered,
 };
-pub use listing::{Entries, ListFault, Listed, Listing, Place};
+pub use listing::{Entries, ListFault, ListPosition, Listed, Listing};
 pub use row::{Origin, Row};
 pub use rows::Rows;

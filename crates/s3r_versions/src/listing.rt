@@ -17,7 +17,7 @@ use thiserror::Error;
 
 /// A place in a listing: behind all versions of keys up to this one, or behind the version of the key that is named.
 #[derive(Debug, Drop)]
-pub struct Place {
+pub struct ListPosition {
     pub key: Key,
     pub id: Option<VersionId>,
 }
@@ -117,7 +117,7 @@ fn end_of_version<B>(rows: &[Row<B>], key: &Key, id: VersionId) -> Option<usize>
     Some(place + 1)
 }
 
-fn end_of_place<B>(rows: &[Row<B>], place: &Place) -> Option<usize>
+fn end_of_place<B>(rows: &[Row<B>], place: &ListPosition) -> Option<usize>
     requires listed { IsTrue (is_listed rows.now) }
     requires once { IsTrue (has_each_once rows.now) }
     ensures there { is_some result ≡ is_version_there place.now.key place.now.id rows.now }
@@ -130,7 +130,7 @@ fn end_of_place<B>(rows: &[Row<B>], place: &Place) -> Option<usize>
 }
 
 /// Where the rows up to the place end. None: the version that it names isn't there.
-pub(crate) fn start_after<B>(rows: &[Row<B>], after: Option<&Place>) -> Option<usize>
+pub(crate) fn start_after<B>(rows: &[Row<B>], after: Option<&ListPosition>) -> Option<usize>
     requires listed { IsTrue (is_listed rows.now) }
     requires once { IsTrue (has_each_once rows.now) }
     ensures there { is_some result ≡ is_place_there (option_copied after.entry) rows.now }

@@ -8,7 +8,7 @@ ghost use Rattle.s3r_versions.specs.Removed.{was_removed, with_id, removed_after
 ghost use Rattle.s3r_versions.specs.Listing.{listing, is_place_there};
 
 use crate::Row;
-use crate::listing::{ListFault, Listing, Place, page_from, start_after};
+use crate::listing::{ListFault, ListPosition, Listing, page_from, start_after};
 use crate::removed::{keep_id, removed_after, was_removed};
 use crate::row::{comes_before, is_of_key, is_version, place_of_version, write_hold, write_tags};
 use s3r_names::{Key, Stamp, TagSet, VersionId};
@@ -85,7 +85,7 @@ impl<B> Rows<B> {
         &self,
         alloc: Global,
         prefix: &str,
-        after: Option<&Place>,
+        after: Option<&ListPosition>,
         limit: usize,
     ) -> Result<Listing, ListFault>
         requires { 1 ≤ limit }
@@ -146,7 +146,8 @@ impl<B: Drop> Rows<B> {
     pub fn remove(&mut self, key: &Key, id: VersionId) -> Result<bool, AllocError>
         ensures ok { IfOk result (λ there. there ≡ is_some (find_version key.now id self.old.rows)) }
         ensures rows { OnOk result (self.new.rows ≡ without_version key.now id self.old.rows) }
-        ensures removed { OnOk result (self.new.removed ≡ (if is_some (find_version key.now id self.old.rows) then with_id id self.old.removed else self.old.removed)) }
+        ensures removed { OnOk result (self.new.removed ≡ (if is_some (find_version key.now id self.old.rows)
+            then with_id id self.old.removed else self.old.removed)) }
         ensures err { OnErr result (self.new ≡ self.old) }
     {
         match place_of_version(&self.rows, key, id) {

@@ -12,7 +12,8 @@ use Rattle.s3r_world.specs.Moments.{elapses_none}
 use Rattle.s3r_world.specs.Stories.{torn_same, torn_written, written_is, replaced, kept, elapses_one}
 
 -- the front of the input has been taken
-pub takes : (s : List Event) (input rest buffer after : List ℕ) (cs ds : List (List ℕ)) (k : ℕ) → k ≤ length input → after ≡ take k input ++ drop k buffer → rest ≡ drop k input → ((k ≡ 0) ↔ (input ≡ [])) → ds ≡ cs → Takes buffer after (Ok k) (outside_after s input cs) (outside_after s rest ds)
+pub takes : (s : List Event) (input rest buffer after : List ℕ) (cs ds : List (List ℕ)) (k : ℕ) → k ≤ length input → after ≡ take k input ++ drop k buffer
+    → rest ≡ drop k input → ((k ≡ 0) ↔ (input ≡ [])) → ds ≡ cs → Takes buffer after (Ok k) (outside_after s input cs) (outside_after s rest ds)
 takes s input rest buffer after cs ds k le bytes is over same = record {
   bytes = bytes;
   ok = is;
@@ -28,7 +29,8 @@ takes s input rest buffer after cs ds k le bytes is over same = record {
 }
 
 module _ (past story : List Event) (i : List ℕ) (cs : List (List ℕ)) where
-  pub writes_done : (v at : ℕ) (b : Vec ℕ Global) (bytes : List ℕ) → story ≡ Wrote v at b true ∷ past → b.items ≡ bytes → at ≤ length ((reads_of past).volume v) → Writes v at bytes true (outside_after past i cs) (outside_after story i cs)
+  pub writes_done : (v at : ℕ) (b : Vec ℕ Global) (bytes : List ℕ) → story ≡ Wrote v at b true ∷ past → b.items ≡ bytes
+      → at ≤ length ((reads_of past).volume v) → Writes v at bytes true (outside_after past i cs) (outside_after story i cs)
   writes_done v at b bytes is same le =
       let old : List ℕ = (reads_of past).volume v in
       let done : Writes v at b.items true (outside_after past i cs) (outside_after (Wrote v at b true ∷ past) i cs) = record {
@@ -42,7 +44,8 @@ module _ (past story : List Event) (i : List ℕ) (cs : List (List ℕ)) where
       (subst (λ (bs : List ℕ). Writes v at bs true (outside_after past i cs) (outside_after (Wrote v at b true ∷ past) i cs)) same done)
 
   -- a write failed, and was recorded
-  writes_failed : (v at : ℕ) (b : Vec ℕ Global) (bytes : List ℕ) → story ≡ Wrote v at b false ∷ past → b.items ≡ bytes → Writes v at bytes false (outside_after past i cs) (outside_after story i cs)
+  writes_failed : (v at : ℕ) (b : Vec ℕ Global) (bytes : List ℕ) → story ≡ Wrote v at b false ∷ past → b.items ≡ bytes
+      → Writes v at bytes false (outside_after past i cs) (outside_after story i cs)
   writes_failed v at b bytes is same =
       let done : Writes v at b.items false (outside_after past i cs) (outside_after (Wrote v at b false ∷ past) i cs) = record {
         written = λ ok. cc;
@@ -67,14 +70,22 @@ module _ (past story : List Event) (i : List ℕ) (cs : List (List ℕ)) where
       subst (λ (s : List Event). Writes v at bytes false (outside_after past i cs) (outside_after s i cs)) (sym is) none
 
   -- a write failed, and was recorded where there was memory
-  pub writes_planned : {T E : Type 0} (recorded : Result T E) (v at : ℕ) (bytes : List ℕ) → OnOk recorded ((b : Vec ℕ Global) × (b.items ≡ bytes) × (story ≡ Wrote v at b false ∷ past)) → OnErr recorded (story ≡ past) → Writes v at bytes false (outside_after past i cs) (outside_after story i cs)
+  pub writes_planned : {T E : Type 0} (recorded : Result T E) (v at : ℕ) (bytes : List ℕ)
+      → OnOk recorded ((b : Vec ℕ Global) × (b.items ≡ bytes) × (story ≡ Wrote v at b false ∷ past)) → OnErr recorded (story ≡ past)
+      → Writes v at bytes false (outside_after past i cs) (outside_after story i cs)
   writes_planned (Ok x) v at bytes ok err = writes_failed v at ok.0 bytes ok.2 ok.1
   writes_planned (Err e) v at bytes ok err = writes_none v at bytes err
 
   pub syncs_none : (v : ℕ) → story ≡ past → Syncs v false (outside_after past i cs) (outside_after story i cs)
   syncs_none v is =
       let none : Syncs v false (outside_after past i cs) (outside_after past i cs) = record {
-        looks = record { as_read = refl; images = λ c now. now; time = elapses_none (outside_after past i cs) _; input = record { input = refl; connections = refl } };
+        looks = record {
+          as_read = refl;
+          images = λ c now. now;
+          time = elapses_none (outside_after past i cs) _;
+          input =
+              record { input = refl; connections = refl };
+        };
         stable = λ ok. cc;
       } in
       subst (λ (s : List Event). Syncs v false (outside_after past i cs) (outside_after s i cs)) (sym is) none
@@ -92,7 +103,8 @@ module _ (past story : List Event) (i : List ℕ) (cs : List (List ℕ)) where
       } in
       subst (λ (s : List Event). Emits bytes (Err e) (outside_after past i cs) (outside_after s i cs)) (sym is) none
 
-  pub emits_done : (b : Vec ℕ Global) (bytes : List ℕ) → story ≡ Put b ∷ past → b.items ≡ bytes → Emits bytes (Ok (length bytes)) (outside_after past i cs) (outside_after story i cs)
+  pub emits_done : (b : Vec ℕ Global) (bytes : List ℕ) → story ≡ Put b ∷ past → b.items ≡ bytes
+      → Emits bytes (Ok (length bytes)) (outside_after past i cs) (outside_after story i cs)
   emits_done b bytes is same =
       let all : take (length b.items) b.items ≡ b.items = take_all (length b.items) b.items (omega arith) in
       let done : Emits b.items (Ok (length b.items)) (outside_after past i cs) (outside_after (Put b ∷ past) i cs) = record {
@@ -103,7 +115,14 @@ module _ (past story : List Event) (i : List ℕ) (cs : List (List ℕ)) where
         images = λ c now. (now.0, now.1, subst (λ (l : List ℕ). Puts l now.0 c) (sym all) now.2);
         time = record {
           later = omega arith;
-          each = (λ t c le left. elim left [ inl now ↦ inr (length b.items, omega arith, (now.0, now.1, subst (λ (l : List ℕ). Puts l now.0 c) (sym all) now.2)) | inr was ↦ inl was.1 ]);
+          each = (λ t c le left. elim left [
+            | inl now ↦ inr (
+              length b.items,
+              omega arith,
+              (now.0, now.1, subst (λ (l : List ℕ). Puts l now.0 c) (sym all) now.2),
+            )
+            | inr was ↦ inl was.1
+          ]);
           keeps = λ t c le left. inr (le, left);
         };
         input = record { input = refl; connections = refl };

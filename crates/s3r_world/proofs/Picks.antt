@@ -18,19 +18,22 @@ blank_same : (c d : Image) → ((v : ℕ) → d.volume v ≡ c.volume v) → d.o
 blank_same c d volumes output = λ i. record { volume = λ v. volumes v i; output = output i }
 
 -- A step on a volume and then other bytes in another one are the same in turn.
-mix_elsewhere : (v u : ℕ) (R : List ℕ → List ℕ → Type 0) (bytes : List ℕ) (d c e : Image) → u ≢ v → OnVolume v R d c → Becomes u bytes c e → OnVolume v R (with_volume d u bytes) e
+mix_elsewhere : (v u : ℕ) (R : List ℕ → List ℕ → Type 0) (bytes : List ℕ) (d c e : Image) → u ≢ v → OnVolume v R d c → Becomes u bytes c e
+    → OnVolume v R (with_volume d u bytes) e
 mix_elsewhere v u R bytes d c e ne on becomes = record {
   here = subst (λ (l : List ℕ). R l (e.volume v)) (sym (ap (λ b. cond b bytes (d.volume v)) (ne_eqb v u (λ same. ne (sym same)))))
       (subst (R (d.volume v)) (sym (becomes.elsewhere v (λ same. ne (sym same)))) on.here);
   elsewhere = λ w other. elim (cases_eq w u) [
-    | inl same ↦ subst (λ (k : ℕ). e.volume k ≡ (with_volume d u bytes).volume k) (sym same) (becomes.here ∙ sym (ap (λ b. cond b bytes (d.volume u)) (same_volume u)))
+    | inl same ↦ subst (λ (k : ℕ). e.volume k ≡ (with_volume d u bytes).volume k) (sym same)
+        (becomes.here ∙ sym (ap (λ b. cond b bytes (d.volume u)) (same_volume u)))
     | inr apart ↦ becomes.elsewhere w apart ∙ on.elsewhere w other ∙ sym (ap (λ b. cond b bytes (d.volume w)) (ne_eqb w u apart))
   ];
   output = becomes.output ∙ on.output;
 }
 
 -- a step to other bytes in its own volume
-mix_here : (v : ℕ) (R : List ℕ → List ℕ → Type 0) (from bytes : List ℕ) (d c e : Image) → R from bytes → OnVolume v R d c → Becomes v bytes c e → OnVolume v R (with_volume d v from) e
+mix_here : (v : ℕ) (R : List ℕ → List ℕ → Type 0) (from bytes : List ℕ) (d c e : Image) → R from bytes → OnVolume v R d c → Becomes v bytes c e
+    → OnVolume v R (with_volume d v from) e
 mix_here v R from bytes d c e step on becomes = record {
   here = subst (λ (l : List ℕ). R l (e.volume v)) (sym (ap (λ b. cond b from (d.volume v)) (same_volume v))) (subst (R from) (sym becomes.here) step);
   elsewhere = λ w other. becomes.elsewhere w other ∙ on.elsewhere w other ∙ sym (ap (λ b. cond b from (d.volume w)) (ne_eqb w v other));
@@ -51,7 +54,8 @@ becomes_read i v bytes = replaced i v bytes (λ _ now. now ≡ bytes) refl
 mix_puts : (u : ℕ) (bytes put : List ℕ) (d c e : Image) → Puts put d c → Becomes u bytes c e → Puts put (with_volume d u bytes) e
 mix_puts u bytes put d c e puts becomes = record {
   volumes = λ w. elim (cases_eq w u) [
-    | inl same ↦ subst (λ (k : ℕ). e.volume k ≡ (with_volume d u bytes).volume k) (sym same) (becomes.here ∙ sym (ap (λ b. cond b bytes (d.volume u)) (same_volume u)))
+    | inl same ↦ subst (λ (k : ℕ). e.volume k ≡ (with_volume d u bytes).volume k) (sym same)
+        (becomes.here ∙ sym (ap (λ b. cond b bytes (d.volume u)) (same_volume u)))
     | inr apart ↦ becomes.elsewhere w apart ∙ puts.volumes w ∙ sym (ap (λ b. cond b bytes (d.volume w)) (ne_eqb w u apart))
   ];
   output = becomes.output ∙ puts.output;
@@ -76,8 +80,17 @@ mixed (Placed v bytes ∷ past) u c e (d, was, on) becomes =
     let read : List ℕ = (reads_of past).volume u in
     let next : Image = with_volume d u read in
     elim (cases_eq u v) [
-      | inl same ↦ (d, was, replaced_then v bytes.items d c e on (at_same v _ _ c e (read_here (reads_of past) v bytes.items) (subst (λ (k : ℕ). Becomes k ((reads_of (Placed v bytes ∷ past)).volume k) c e) same becomes)))
-      | inr apart ↦ (next, mixed past u d next was (becomes_read d u read), mix_elsewhere v u (λ _ now. now ≡ bytes.items) read d c e apart on (at_same u _ _ c e (read_elsewhere (reads_of past) v u bytes.items apart) becomes))
+      | inl same ↦ (
+        d,
+        was,
+        replaced_then v bytes.items d c e on (at_same v _ _ c e (read_here (reads_of past) v bytes.items)
+            (subst (λ (k : ℕ). Becomes k ((reads_of (Placed v bytes ∷ past)).volume k) c e) same becomes)),
+      )
+      | inr apart ↦ (
+        next,
+        mixed past u d next was (becomes_read d u read),
+        mix_elsewhere v u (λ _ now. now ≡ bytes.items) read d c e apart on (at_same u _ _ c e (read_elsewhere (reads_of past) v u bytes.items apart) becomes),
+      )
     ]
 mixed (Wrote v at bytes true ∷ past) u c e (d, was, on) becomes =
     let read : List ℕ = (reads_of past).volume u in
@@ -88,9 +101,14 @@ mixed (Wrote v at bytes true ∷ past) u c e (d, was, on) becomes =
         with_volume d v ((reads_of past).volume v),
         mixed past v d (with_volume d v ((reads_of past).volume v)) was (becomes_read d v ((reads_of past).volume v)),
         mix_here v (Torn at (length bytes.items)) ((reads_of past).volume v) now d c e (torn_written at bytes.items ((reads_of past).volume v)) on
-            (at_same v _ _ c e (read_here (reads_of past) v now) (subst (λ (k : ℕ). Becomes k ((reads_of (Wrote v at bytes true ∷ past)).volume k) c e) same becomes)),
+            (at_same v _ _ c e (read_here (reads_of past) v now) (subst
+            (λ (k : ℕ). Becomes k ((reads_of (Wrote v at bytes true ∷ past)).volume k) c e) same becomes)),
       )
-      | inr apart ↦ (next, mixed past u d next was (becomes_read d u read), mix_elsewhere v u (Torn at (length bytes.items)) read d c e apart on (at_same u _ _ c e (read_elsewhere (reads_of past) v u now apart) becomes))
+      | inr apart ↦ (
+        next,
+        mixed past u d next was (becomes_read d u read),
+        mix_elsewhere v u (Torn at (length bytes.items)) read d c e apart on (at_same u _ _ c e (read_elsewhere (reads_of past) v u now apart) becomes),
+      )
     ]
 mixed (Wrote v at bytes false ∷ past) u c e (d, was, on) becomes =
     let read : List ℕ = (reads_of past).volume u in
@@ -99,7 +117,8 @@ mixed (Wrote v at bytes false ∷ past) u c e (d, was, on) becomes =
       | inl same ↦ (
         with_volume d v ((reads_of past).volume v),
         mixed past v d (with_volume d v ((reads_of past).volume v)) was (becomes_read d v ((reads_of past).volume v)),
-        mix_here v (Torn at (length bytes.items)) ((reads_of past).volume v) ((reads_of past).volume v) d c e (torn_same at (length bytes.items) ((reads_of past).volume v)) on
+        mix_here v (Torn at (length bytes.items)) ((reads_of past).volume v) ((reads_of past).volume v) d c e
+            (torn_same at (length bytes.items) ((reads_of past).volume v)) on
             (subst (λ (k : ℕ). Becomes k ((reads_of past).volume k) c e) same becomes),
       )
       | inr apart ↦ (next, mixed past u d next was (becomes_read d u read), mix_elsewhere v u (Torn at (length bytes.items)) read d c e apart on becomes)
@@ -117,7 +136,8 @@ mixed (Put bytes ∷ past) u c e (d, was, puts) becomes =
     (next, mixed past u d next was (becomes_read d u read), mix_puts u read bytes.items d c e puts becomes)
 
 -- one volume is changed, each place by its own bytes
-stepped : (i : Image) (u : ℕ) (change : ℕ → List ℕ) (R : List ℕ → List ℕ → Type 0) → R (i.volume u) (change u) → OnVolume u R i (record { volume = λ w. cond (w == u) (change w) (i.volume w); output = i.output })
+stepped : (i : Image) (u : ℕ) (change : ℕ → List ℕ) (R : List ℕ → List ℕ → Type 0) → R (i.volume u) (change u)
+    → OnVolume u R i (record { volume = λ w. cond (w == u) (change w) (i.volume w); output = i.output })
 stepped i u change R r = record {
   here = subst (R (i.volume u)) (sym (ap (λ b. cond b (change u) (i.volume u)) (same_volume u))) r;
   elsewhere = λ w ne. ap (λ b. cond b (change w) (i.volume w)) (ne_eqb w u ne);
@@ -127,15 +147,28 @@ stepped i u change R r = record {
 left_torn : (pick : Pick) (at : ℕ) (bytes left : List ℕ) → Torn at (length bytes) left (left_of_write pick at bytes left)
 left_torn AsRead at bytes left = torn_written at bytes left
 left_torn Stable at bytes left = torn_same at (length bytes) left
-left_torn (Fill byte) at bytes left = subst (λ (n : ℕ). Torn at n left (written at (replicate (length bytes) byte) left)) (length-replicate (length bytes) byte) (torn_written at (replicate (length bytes) byte) left)
+left_torn (Fill byte) at bytes left = subst (λ (n : ℕ). Torn at n left (written at (replicate (length bytes) byte) left))
+    (length-replicate (length bytes) byte) (torn_written at (replicate (length bytes) byte) left)
 
 -- what a pick leaves is one of the images
 pub picked_image : (pick : Pick) (story : List Event) → images_of story (picked pick story)
 picked_image pick [] = blank_same blank (picked pick []) (λ v. refl) refl
-picked_image pick (Placed u bytes ∷ past) = (picked pick past, picked_image pick past, stepped (picked pick past) u (λ _. bytes.items) (λ _ now. now ≡ bytes.items) refl)
-picked_image pick (Wrote u at bytes true ∷ past) =
-    (picked pick past, picked_image pick past, stepped (picked pick past) u (λ w. left_of_write pick at bytes.items (left_of pick past w)) (Torn at (length bytes.items)) (left_torn pick at bytes.items (left_of pick past u)))
-picked_image pick (Wrote u at bytes false ∷ past) = (picked pick past, picked_image pick past, kept (picked pick past) u (Torn at (length bytes.items)) (torn_same at (length bytes.items) (left_of pick past u)))
+picked_image pick (Placed u bytes ∷ past) = (
+  picked pick past,
+  picked_image pick past,
+  stepped (picked pick past) u (λ _. bytes.items) (λ _ now. now ≡ bytes.items) refl,
+)
+picked_image pick (Wrote u at bytes true ∷ past) = (
+  picked pick past,
+  picked_image pick past,
+  stepped (picked pick past) u (λ w. left_of_write pick at bytes.items (left_of pick past w))
+      (Torn at (length bytes.items)) (left_torn pick at bytes.items (left_of pick past u)),
+)
+picked_image pick (Wrote u at bytes false ∷ past) = (
+  picked pick past,
+  picked_image pick past,
+  kept (picked pick past) u (Torn at (length bytes.items)) (torn_same at (length bytes.items) (left_of pick past u)),
+)
 picked_image pick (Synced u ∷ past) =
     let on = stepped (picked pick past) u (reads_of past).volume (λ _ now. now ≡ (reads_of past).volume u) refl in
     (mixed past u (picked pick past) (picked pick (Synced u ∷ past)) (picked_image pick past) on, on.here)

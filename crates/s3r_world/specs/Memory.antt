@@ -2,7 +2,7 @@
 use Rattle.std.specs.Prelude.{◌≡◌, ◌⊎◌, ℕ, ◌<◌, ◌≤◌, IsTrue, List, map, drop, reverse, Vec, Result, IsErr, OnErr, slice_index, vec_len}
 use Rattle.std.specs.declared.alloc.Global.{Global}
 use Rattle.s3r_world.specs.declared.disk.Event.{Event}
-use Rattle.s3r_world.specs.declared.plan.Plan.{Plan}
+use Rattle.s3r_world.specs.declared.plan.FaultPlan.{FaultPlan}
 use Rattle.s3r_world.specs.declared.plan.Side.{Side}
 use Rattle.s3r_world.specs.declared.plan.Side.TheVariants as side
 use Rattle.s3r_world.specs.declared.memory.MemoryWorld.{MemoryWorld}
@@ -43,7 +43,7 @@ count_of side.Output counts = counts.output
 count_of side.Door counts = counts.door
 
 -- which of its calls are to fail, and how many there were
-abbrev pub plan_of : MemoryWorld → Plan
+abbrev pub plan_of : MemoryWorld → FaultPlan
 plan_of w = w.plan
 
 -- how many calls of the trait there were, but for `volumes` and `room`. It stays at 2^64 - 1
@@ -65,7 +65,7 @@ pub record IsNew (w : MemoryWorld) : Type 0 where
   pub faults : IsFaultless (faults_of w)
 
 -- the same but for the plan
-abbrev pub with_plan : Plan → MemoryWorld → MemoryWorld
+abbrev pub with_plan : FaultPlan → MemoryWorld → MemoryWorld
 with_plan plan w = record w { plan = plan }
 
 -- Nothing is another but the volumes' bytes, the output, and how many bytes of the input are taken at a time.

@@ -28,22 +28,26 @@ pub elapses_all : (a b : Outside) (P : Image → Type 0) → Elapses a b P → (
 elapses_all a b P time start c left = ⊎_elim (start c) (λ p. p) (time.each a.moment c (omega arith) left)
 
 -- what held of each image at a, and a step that may come from each, leads to what holds since
-pub elapses_from : (a b : Outside) (step : Image → Image → Type 0) (J P : Image → Type 0) → Elapses a b (Reached step a.images) → ((d : Image) → a.images d → J d) → ((d c : Image) → J d → step d c → P c) → Elapses a b P
+pub elapses_from : (a b : Outside) (step : Image → Image → Type 0) (J P : Image → Type 0) → Elapses a b (Reached step a.images)
+    → ((d : Image) → a.images d → J d) → ((d c : Image) → J d → step d c → P c) → Elapses a b P
 elapses_from a b step J P time held lead = elapses_weaker a b _ P time (λ c from. lead from.0 c (held from.0 from.1) from.2)
 
 -- and leads to what holds of each image at b
-pub follows_from : (a b : Outside) (step : Image → Image → Type 0) (J P : Image → Type 0) → Follows step a.images b.images → ((d : Image) → a.images d → J d) → ((d c : Image) → J d → step d c → P c) → (c : Image) → b.images c → P c
+pub follows_from : (a b : Outside) (step : Image → Image → Type 0) (J P : Image → Type 0) → Follows step a.images b.images → ((d : Image) → a.images d → J d)
+    → ((d c : Image) → J d → step d c → P c) → (c : Image) → b.images c → P c
 follows_from a b step J P follows held lead c now = let from = follows c now in lead from.0 c (held from.0 from.1) from.2
 
 -- one step on a volume after another
-pub on_then : (v : ℕ) (R S T : List ℕ → List ℕ → Type 0) (a b d : Image) → (R (a.volume v) (b.volume v) → S (b.volume v) (d.volume v) → T (a.volume v) (d.volume v)) → OnVolume v R a b → OnVolume v S b d → OnVolume v T a d
+pub on_then : (v : ℕ) (R S T : List ℕ → List ℕ → Type 0) (a b d : Image)
+    → (R (a.volume v) (b.volume v) → S (b.volume v) (d.volume v) → T (a.volume v) (d.volume v)) → OnVolume v R a b → OnVolume v S b d → OnVolume v T a d
 on_then v R S T a b d step first second = record {
   here = step first.here second.here;
   elsewhere = λ u ne. second.elsewhere u ne ∙ first.elsewhere u ne;
   output = second.output ∙ first.output;
 }
 
-pub on_weaker : (v : ℕ) (R S : List ℕ → List ℕ → Type 0) (a b : Image) → (R (a.volume v) (b.volume v) → S (a.volume v) (b.volume v)) → OnVolume v R a b → OnVolume v S a b
+pub on_weaker : (v : ℕ) (R S : List ℕ → List ℕ → Type 0) (a b : Image) → (R (a.volume v) (b.volume v) → S (a.volume v) (b.volume v)) → OnVolume v R a b
+    → OnVolume v S a b
 on_weaker v R S a b step on = record { here = step on.here; elsewhere = on.elsewhere; output = on.output }
 
 pub keeps_then : (a b d : Outside) → KeepsInput a b → KeepsInput b d → KeepsInput a d

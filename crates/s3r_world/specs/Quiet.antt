@@ -9,7 +9,8 @@ use Rattle.s3r_world.specs.Memory.{plan_of, starved_of, faults_of}
 -- Where no failure is planned and no want of memory was counted, none is planned afterwards and no count has risen.
 pub record StaysQuiet (old new : MemoryWorld) : Type 0 where
   pub later : starved_of old ≤ starved_of new
-  pub none : IsQuiet (plan_of old) → starved_of new ≡ starved_of old → starved_of new < 2 ^ 64 - 1 → IsQuiet (plan_of new) × SameCounts (faults_of old) (faults_of new)
+  pub none : IsQuiet (plan_of old) → starved_of new ≡ starved_of old → starved_of new < 2 ^ 64 - 1 → IsQuiet (plan_of new)
+      × SameCounts (faults_of old) (faults_of new)
 
 pub quiet_none : (w : MemoryWorld) → StaysQuiet w w
 quiet_none w = record { later = omega arith; none = λ quiet same few. (quiet, record { volume = λ v. refl; input = refl; output = refl; door = refl }) }

@@ -16,9 +16,11 @@ pub torn_put : (at : ℕ) (bytes old : List ℕ) → at ≤ length old → Torn 
 torn_put at bytes old le =
     let front : length (take at old) ≡ at = length-take-le at old le in
     let both : length (take at old ++ bytes) ≡ at + length bytes = omega (arith, length-append (take at old) bytes, front) in
-    let all : length (take at old ++ bytes ++ drop (at + length bytes) old) ≡ at + length bytes + length (drop (at + length bytes) old) = omega (arith, length-append (take at old ++ bytes) (drop (at + length bytes) old), both) in
+    let all : length (take at old ++ bytes ++ drop (at + length bytes) old) ≡ at + length bytes + length (drop (at + length bytes) old) =
+    omega (arith, length-append (take at old ++ bytes) (drop (at + length bytes) old), both) in
     record {
-      before = ap (take at) (append_assoc (take at old) bytes (drop (at + length bytes) old)) ∙ take_at (take at old) (bytes ++ drop (at + length bytes) old) at front;
+      before = ap (take at) (append_assoc (take at old) bytes (drop (at + length bytes) old))
+          ∙ take_at (take at old) (bytes ++ drop (at + length bytes) old) at front;
       after = drop_at (take at old ++ bytes) (drop (at + length bytes) old) (at + length bytes) both;
       no_shorter = omega (arith, all, length-drop (at + length bytes) old);
       no_longer = omega (arith, all, length-drop (at + length bytes) old);
@@ -30,7 +32,8 @@ written_is at bytes old le = ap (λ b. cond b (take at old ++ bytes ++ drop (at 
 pub torn_written : (at : ℕ) (bytes old : List ℕ) → Torn at (length bytes) old (written at bytes old)
 torn_written at bytes old = elim (cases_Bool (nat_le at (length old))) [
   | inl within ↦ let le = leb-true at (length old) within in subst (Torn at (length bytes) old) (sym (written_is at bytes old le)) (torn_put at bytes old le)
-  | inr beyond ↦ subst (Torn at (length bytes) old) (sym (ap (λ b. cond b (take at old ++ bytes ++ drop (at + length bytes) old) old) beyond)) (torn_same at (length bytes) old)
+  | inr beyond ↦ subst (Torn at (length bytes) old) (sym (ap (λ b. cond b (take at old ++ bytes ++ drop (at + length bytes) old) old) beyond))
+      (torn_same at (length bytes) old)
 ]
 
 pub same_volume : (v : ℕ) → (v == v) ≡ true
@@ -51,9 +54,17 @@ kept i v R r = record { here = r; elsewhere = λ u ne. refl; output = refl }
 pub one_image : (story : List Event) → images_of story (reads_of story)
 one_image [] = refl
 one_image (Placed v bytes ∷ past) = (reads_of past, one_image past, replaced (reads_of past) v bytes.items (λ _ new. new ≡ bytes.items) refl)
-one_image (Wrote v at bytes true ∷ past) =
-    (reads_of past, one_image past, replaced (reads_of past) v (written at bytes.items ((reads_of past).volume v)) (Torn at (length bytes.items)) (torn_written at bytes.items ((reads_of past).volume v)))
-one_image (Wrote v at bytes false ∷ past) = (reads_of past, one_image past, kept (reads_of past) v (Torn at (length bytes.items)) (torn_same at (length bytes.items) ((reads_of past).volume v)))
+one_image (Wrote v at bytes true ∷ past) = (
+  reads_of past,
+  one_image past,
+  replaced (reads_of past) v (written at bytes.items ((reads_of past).volume v)) (Torn at (length bytes.items))
+      (torn_written at bytes.items ((reads_of past).volume v)),
+)
+one_image (Wrote v at bytes false ∷ past) = (
+  reads_of past,
+  one_image past,
+  kept (reads_of past) v (Torn at (length bytes.items)) (torn_same at (length bytes.items) ((reads_of past).volume v)),
+)
 one_image (Synced v ∷ past) = (one_image past, refl)
 one_image (Put bytes ∷ past) = (reads_of past, one_image past, record { volumes = λ u. refl; output = refl })
 
@@ -76,7 +87,8 @@ only_now (e ∷ past) c (inl now) = now
 only_now (e ∷ past) c (inr (le, was)) = absurd (omega (arith, le))
 
 -- one event more
-pub elapses_one : (e : Event) (past : List Event) (i j : List ℕ) (cs ds : List (List ℕ)) → Elapses (outside_after past i cs) (outside_after (e ∷ past) j ds) (images_of (e ∷ past))
+pub elapses_one : (e : Event) (past : List Event) (i j : List ℕ) (cs ds : List (List ℕ))
+    → Elapses (outside_after past i cs) (outside_after (e ∷ past) j ds) (images_of (e ∷ past))
 elapses_one e past i j cs ds = record {
   later = omega arith;
   each = λ t c le left. ⊎_elim (λ now. inr now) (λ was. inl was.1) left;

@@ -116,7 +116,8 @@ impl Disk {
     pub fn write(&mut self, v: u32, at: u64, bytes: &[u8]) -> Result<(), AllocError>
         requires volume { v < vec_len self.old.volumes }
         requires place { at ≤ length ((reads_of (reverse self.old.events.items)).volume v) }
-        ensures ok { OnOk result ((b : Vec ℕ Global) × (b.items ≡ bytes.now) × (reverse self.new.events.items ≡ Wrote v at b true ∷ reverse self.old.events.items)) }
+        ensures ok { OnOk result ((b : Vec ℕ Global) × (b.items ≡ bytes.now)
+            × (reverse self.new.events.items ≡ Wrote v at b true ∷ reverse self.old.events.items)) }
         ensures err { OnErr result (self.new.events.items ≡ self.old.events.items) }
         ensures volumes { vec_len self.new.volumes ≡ vec_len self.old.volumes }
     {
@@ -129,7 +130,8 @@ impl Disk {
 
     /// A write that failed: nothing is changed, but a crash may leave any bytes in the range.
     pub fn fail_write(&mut self, v: u32, at: u64, bytes: &[u8]) -> Result<(), AllocError>
-        ensures ok { OnOk result ((b : Vec ℕ Global) × (b.items ≡ bytes.now) × (reverse self.new.events.items ≡ Wrote v at b false ∷ reverse self.old.events.items)) }
+        ensures ok { OnOk result ((b : Vec ℕ Global) × (b.items ≡ bytes.now)
+            × (reverse self.new.events.items ≡ Wrote v at b false ∷ reverse self.old.events.items)) }
         ensures err { OnErr result (self.new.events.items ≡ self.old.events.items) }
         ensures volumes { vec_len self.new.volumes ≡ vec_len self.old.volumes }
     {
@@ -178,7 +180,8 @@ impl Disk {
     pub fn image(&self, alloc: Global, pick: Pick) -> Result<Disk, AllocError>
         requires { vec_len self.now.volumes < 2 ^ 32 }
         ensures volumes { IfOk result (λ d. vec_len d.volumes ≡ vec_len self.now.volumes) }
-        ensures picked { IfOk result (λ d. AgreesBelow (vec_len self.now.volumes) (reads_of (reverse d.events.items)) (picked pick (reverse self.now.events.items))) }
+        ensures picked { IfOk result (λ d. AgreesBelow (vec_len self.now.volumes) (reads_of (reverse d.events.items))
+            (picked pick (reverse self.now.events.items))) }
         ensures stable { IfOk result (λ d. IsSettled (reverse d.events.items)) }
     {
         let count = self.volumes.len() as u32;

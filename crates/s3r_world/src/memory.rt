@@ -4,7 +4,7 @@ ghost use Rattle.std.specs.declared.alloc.Global.{Global};
 
 use crate::counters::{Counters, count_one};
 use crate::disk::{Disk, fill};
-use crate::plan::{Plan, Side};
+use crate::plan::{FaultPlan, Side};
 use crate::replay::Pick;
 use crate::world::{DoorFault, InputFault, OutputFault, VolumeFault, World};
 use std::alloc::{AllocError, AllocFailed, Global};
@@ -42,7 +42,8 @@ impl Lines {
 
     // Goes on to the next connection's input, where there is one.
     fn next(&mut self) -> bool
-        ensures come { MatchBool result (map (λ (v : Vec ℕ Global). v.items) self.old.connections.items ≡ drop self.new.taken self.new.input.items ∷ map (λ (v : Vec ℕ Global). v.items) self.new.connections.items) (self.new ≡ self.old) }
+        ensures come { MatchBool result (map (λ (v : Vec ℕ Global). v.items) self.old.connections.items ≡ drop self.new.taken self.new.input.items ∷ map
+            (λ (v : Vec ℕ Global). v.items) self.new.connections.items) (self.new ≡ self.old) }
         ensures none { IsTrue (not result) → map (λ (v : Vec ℕ Global). v.items) self.old.connections.items ≡ [] }
         ensures piece { self.new.piece ≡ self.old.piece }
     {
@@ -63,7 +64,7 @@ pub struct MemoryWorld {
     disk: Disk,
     lines: Lines,
     counts: Counters,
-    plan: Plan,
+    plan: FaultPlan,
     starved: u64,
     ghost small: { room ≤ 268435456 },
     ghost few: { vec_len disk.volumes ≤ 8 },
@@ -309,7 +310,7 @@ impl MemoryWorld {
             disk,
             lines,
             counts,
-            plan: Plan::nothing(),
+            plan: FaultPlan::nothing(),
             starved: 0,
         })
     }

@@ -19,7 +19,7 @@ pub(crate) const MOST_VOLUMES: u32 = 8;
 
 // Which calls are to fail, and how many there were.
 #[derive(Drop)]
-pub(crate) struct Plan {
+pub(crate) struct FaultPlan {
     // so many of the next calls of each volume, and of the other sides
     pub volumes: [u32; 8],
     pub input: u32,
@@ -33,13 +33,13 @@ pub(crate) struct Plan {
     pub calls: u64,
 }
 
-impl Plan {
+impl FaultPlan {
     ghost use Rattle.s3r_world.specs.Planned.{is_after, is_at, next_of, is_planned, after_call, with_next, nothing_planned, IsQuiet};
 
-    pub fn nothing() -> Plan
+    pub fn nothing() -> FaultPlan
         ensures { result ≡ nothing_planned }
     {
-        Plan {
+        FaultPlan {
             volumes: [0; 8],
             input: 0,
             output: 0,

@@ -9,7 +9,7 @@ returns-in-Ok-clause-sound g c = λ told meant sound.
     let same : c.in-Some.words.regions ≡ (g.W.World.shape c.args.world.now).volumes = omega (arith) in
     let start = g.W.World.outside c.args.world.now in
     let end = g.W.World.outside c.serve.new.world in
-    let served = c.in-Ok.ensures.served told in
+    let served = (c.in-Ok.ensures.served told).conversation in
     stays_sound (g.W.World.shape c.args.world.now).volumes ((served.closing ++ events_in served.final) ++ events_of served.turns) start end
     (subst (λ (n : ℕ). Passes n ((served.closing ++ events_in served.final) ++ events_of served.turns) start end) same served.passes) sound
 
@@ -18,6 +18,6 @@ returns-in-Err-clause-sound g c = λ told meant sound.
     let same : c.in-Some.words.regions ≡ (g.W.World.shape c.args.world.now).volumes = omega (arith) in
     let start = g.W.World.outside c.args.world.now in
     let end = g.W.World.outside c.serve.new.world in
-    let served = c.in-Err.ensures.served told in
+    let served = (c.in-Err.ensures.served told).conversation in
     stays_sound (g.W.World.shape c.args.world.now).volumes ((served.closing ++ events_in served.final) ++ events_of served.turns) start end
     (subst (λ (n : ℕ). Passes n ((served.closing ++ events_in served.final) ++ events_of served.turns) start end) same served.passes) sound

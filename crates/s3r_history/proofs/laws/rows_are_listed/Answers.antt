@@ -1,3 +1,4 @@
+use Rattle.s3r_history.proofs.FirstGreatest.{rows_written, one_first}
 use Rattle.s3r_history.proofs.HistoryRows.{rows_listed}
 use Rattle.s3r_history.proofs.LatestRows.{ids_own, next_new, put_latest, marker_latest, removed_gone}
 use Rattle.s3r_history.proofs.laws.rows_are_listed.Goals as goal
@@ -19,3 +20,9 @@ returns-clause-marker_is_latest c = marker_latest
 
 pub returns-clause-removed_is_gone : goal.returns-clause-removed_is_gone
 returns-clause-removed_is_gone c = removed_gone
+
+pub returns-clause-written : goal.returns-clause-written
+returns-clause-written c = rows_written
+
+pub returns-clause-one_write : goal.returns-clause-one_write
+returns-clause-one_write c = (one_first, one_first)

@@ -7,4 +7,10 @@ pub returns-then-number-gt-BODY_LIMIT-clause-above : goal.returns-then-number-gt
 returns-then-number-gt-BODY_LIMIT-clause-above c =
     let i = c.loop-digit.digit-index in
     let digits = c.args.digits.now in
-    omega (arith, c.loop-digit.invariant, number_grows (take i digits) (drop i digits), ap number_of (take-append-drop i digits), c.if-number-gt-BODY_LIMIT.true)
+    omega (
+      arith,
+      c.loop-digit.invariant,
+      number_grows (take i digits) (drop i digits),
+      ap number_of (take-append-drop i digits),
+      c.if-number-gt-BODY_LIMIT.true,
+    )

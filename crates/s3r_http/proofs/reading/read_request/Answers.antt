@@ -26,13 +26,15 @@ returns-in_err-length-clause-incomplete g c = λ told input raw text rest spells
 pub returns-in-Cut-clause-refused : goal.returns-in-Cut-clause-refused
 returns-in-Cut-clause-refused g c = λ told.
     let stream = (c.read_head.ensures.told told).stream in
-    let head = subst (λ (h : Head). HeadIs h (c.read_head.new.buffer ++ (g.W.World.outside c.read_head.new.world).input)) c.in-Cut.is (c.in_ok-length.ensures.head told) in
+    let head = subst (λ (h : Head). HeadIs h (c.read_head.new.buffer ++ (g.W.World.outside c.read_head.new.world).input)) c.in-Cut.is
+    (c.in_ok-length.ensures.head told) in
     cause_none fault.CutShort _ (inl (subst EndsInHead stream head))
 
 pub returns-in-TooLong-clause-refused : goal.returns-in-TooLong-clause-refused
 returns-in-TooLong-clause-refused g c = λ told.
     let stream = (c.read_head.ensures.told told).stream in
-    let head = subst (λ (h : Head). HeadIs h (c.read_head.new.buffer ++ (g.W.World.outside c.read_head.new.world).input)) c.in-TooLong.is (c.in_ok-length.ensures.head told) in
+    let head = subst (λ (h : Head). HeadIs h (c.read_head.new.buffer ++ (g.W.World.outside c.read_head.new.world).input)) c.in-TooLong.is
+    (c.in_ok-length.ensures.head told) in
     cause_none fault.HeadTooLong _ (subst BeginsTooLong stream head)
 
 pub returns-in_err-plan-clause-cause : goal.returns-in_err-plan-clause-cause
@@ -67,7 +69,15 @@ returns-in_err-fill_to-clause-incomplete g c = λ told failed raw text rest spel
     let size : length slice ≡ n = ap length (ap (take n) c.as_slice.ensures) ∙ length-take-le n one taken in
     let plan = c.in_ok-plan.ensures.plan in
     let waiting : length two < n + c.in_ok-plan.plan.body = c.in_err-fill_to.ensures.waiting in
-    (none_ended two (record { bytes = slice; begins = front_later (one ++ input) slice two n front again; head = plan.head; body = c.in_ok-plan.plan.body; asks = plan.asks; short = omega (arith, size, waiting) })).1
+    (none_ended two (record {
+      bytes = slice;
+      begins = front_later (one ++ input) slice two n front again;
+      head = plan.head;
+      body =
+          c.in_ok-plan.plan.body;
+      asks = plan.asks;
+      short = omega (arith, size, waiting);
+    })).1
     raw text rest spells begins
 
 pub returns-then-not-branch-clause-cause : goal.returns-then-not-branch-clause-cause
@@ -84,7 +94,15 @@ returns-then-not-branch-clause-cause g c = λ told.
     let short = c.in_ok-fill_to.ensures.short told c.if-not-branch.true in
     let filled = (c.fill_to.ensures.told told).stream in
     inr (subst EndsInBody (c.read_head.ensures.told told).stream
-    (record { bytes = slice; begins = front; head = plan.head; body = c.in_ok-plan.plan.body; asks = plan.asks; short = omega (arith, size, short, ap length filled) }))
+    (record {
+      bytes = slice;
+      begins = front;
+      head = plan.head;
+      body = c.in_ok-plan.plan.body;
+      asks = plan.asks;
+      short =
+          omega (arith, size, short, ap length filled);
+    }))
 
 pub returns-then-not-branch-clause-refused : goal.returns-then-not-branch-clause-refused
 returns-then-not-branch-clause-refused g c = λ told.
@@ -108,9 +126,18 @@ returns-clause-told g c = λ told.
     let again : slice ≡ take n two = ap (take n) (c.as_slice.ensures ∙ sym c.fill_to.ensures.kept) ∙ take-take n (length one) two taken in
     let enough : n + k ≤ length two = c.in_ok-fill_to.ensures.enough c.if-not-branch.false in
     let span : n + k - n ≡ k = omega (arith) in
-    let body : raw.body ≡ take k (drop n two) = c.raw_of.ensures.body ∙ c.in_ok-body.ensures ∙ ap (λ (m : ℕ). take m (drop n c.as_slice-2.result.now)) span ∙ ap (λ (l : List ℕ). take k (drop n l)) c.as_slice-2.ensures in
+    let body : raw.body ≡ take k (drop n two) = c.raw_of.ensures.body ∙ c.in_ok-body.ensures ∙ ap (λ (m : ℕ). take m (drop n c.as_slice-2.result.now)) span
+    ∙ ap (λ (l : List ℕ). take k (drop n l)) c.as_slice-2.ensures in
     let size : length raw.body ≡ k = ap length body ∙ length-take-le k (drop n two) (omega (arith, enough, length-drop n two)) in (
       slice ++ raw.body,
-      spells_read (one ++ input) slice c.in_ok-plan.plan raw.body raw front c.in_ok-plan.ensures.plan (record { method = c.raw_of.ensures.method; target = c.raw_of.ensures.target; fields = c.raw_of.ensures.fields; body = refl; last = c.raw_of.ensures.last }) size,
+      spells_read (one ++ input) slice c.in_ok-plan.plan raw.body raw front c.in_ok-plan.ensures.plan
+          (record {
+            method = c.raw_of.ensures.method;
+            target = c.raw_of.ensures.target;
+            fields = c.raw_of.ensures.fields;
+            body = refl;
+            last =
+                c.raw_of.ensures.last;
+          }) size,
       sym stream ∙ sym filled ∙ passed_over two slice raw.body c.pass.new.self later n k again body c.pass.ensures,
     )

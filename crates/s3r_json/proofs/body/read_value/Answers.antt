@@ -7,4 +7,5 @@ pub returns-in-Ok : goal.returns-in-Ok
 returns-in-Ok c = ap (of_value Ok) (value_of c.args.body.now _ c.in-Ok.ensures.ok)
 
 pub returns-in_default : goal.returns-in_default
-returns-in_default c = ap (of_value Ok) (no_value c.args.body.now (c.in-Err.ensures.err (λ memory. c.in_default.not-Memory (c.classify.ensures.memory.1 memory))))
+returns-in_default c = ap (of_value Ok) (no_value c.args.body.now (c.in-Err.ensures.err
+    (λ memory. c.in_default.not-Memory (c.classify.ensures.memory.1 memory))))

@@ -8,7 +8,8 @@ returns-in-Ok-clause-named c =
     ap is_some c.then_some.ensures
     ∙ then_told c.is_within.result c.in-Ok.text
     ∙ c.is_within.ensures
-    ∙ text_told c.args.bytes.now c.args.least c.args.most c.char_count.result c.in-Ok.text.now c.in-Ok.ensures.cases.1 c.in-Ok.ensures.cases.0 c.char_count.ensures
+    ∙ text_told c.args.bytes.now c.args.least c.args.most c.char_count.result c.in-Ok.text.now c.in-Ok.ensures.cases.1 c.in-Ok.ensures.cases.0
+    c.char_count.ensures
 
 pub returns-in-Err-clause-named : goal.returns-in-Err-clause-named
 returns-in-Err-clause-named c = sym (no_text_told c.args.bytes.now c.args.least c.args.most c.in-Err.ensures.cases.0)

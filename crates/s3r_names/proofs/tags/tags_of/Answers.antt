@@ -7,7 +7,8 @@ use Rattle.s3r_names.specs.Tags.{is_tag}
 use Rattle.s3r_names.specs.Query.{tag_of}
 use Rattle.s3r_names.proofs.tags.tags_of.Goals as goal
 
-refused_at : (pairs : List (List ℕ × List ℕ)) (i : ℕ) (pair : List ℕ × List ℕ) → i < length pairs → pair ≡ get_or pairs i pair → is_tag (tag_of pair) ≡ false → list_all is_tag (map tag_of pairs) ≡ false
+refused_at : (pairs : List (List ℕ × List ℕ)) (i : ℕ) (pair : List ℕ × List ℕ) → i < length pairs → pair ≡ get_or pairs i pair → is_tag (tag_of pair) ≡ false
+    → list_all is_tag (map tag_of pairs) ≡ false
 refused_at [] i pair h e none = absurd (omega arith)
 refused_at (first ∷ pairs) zero pair h e none = and_left (is_tag (tag_of first)) _ (ap (λ p. is_tag (tag_of p)) (sym e) ∙ none)
 refused_at (first ∷ pairs) (suc i) pair h e none = and_right (is_tag (tag_of first)) _ (refused_at pairs i pair (omega arith) e none)

@@ -25,15 +25,23 @@ returns-in_err-hex_value-clause-only c n lt e =
 pub overflow_add-number : goal.overflow_add-number
 overflow_add-number c =
     let early : c.loop-byte.byte-index < 16 = omega arith in
-    omega (arith, fits_more c.loop-byte.byte-index c.loop-byte.number early c.loop-byte.invariant.below, (digit_of_value (get_or c.args.digits.now c.loop-byte.byte-index 0) c.in_ok-hex_value.field-0 (sym c.in_ok-hex_value.ensures)).0, c.from.ensures)
+    omega (
+      arith,
+      fits_more c.loop-byte.byte-index c.loop-byte.number early c.loop-byte.invariant.below,
+      (digit_of_value (get_or c.args.digits.now c.loop-byte.byte-index 0) c.in_ok-hex_value.field-0 (sym c.in_ok-hex_value.ensures)).0,
+      c.from.ensures,
+    )
 
 pub loop-byte-preserved : goal.loop-byte-preserved
 loop-byte-preserved c =
-    let value : Some c.from.result ≡ hex_value (get_or c.args.digits.now c.loop-byte.byte-index 0) = ap (λ (v : ℕ). Some v) c.from.ensures ∙ c.in_ok-hex_value.ensures in
+    let value : Some c.from.result ≡ hex_value (get_or c.args.digits.now c.loop-byte.byte-index 0) =
+    ap (λ (v : ℕ). Some v) c.from.ensures ∙ c.in_ok-hex_value.ensures in
     record {
       below = byte_below c.args.digits.now c.loop-byte.byte-index c.loop-byte.number c.from.result value c.loop-byte.invariant.below;
-      spelled = byte_spelled c.args.digits.now c.loop-byte.byte-index c.loop-byte.number c.from.result c.loop-byte-test.true value c.loop-byte.invariant.spelled;
-      reads = sym (byte_read c.args.digits.now c.loop-byte.byte-index c.loop-byte.number c.from.result c.loop-byte-test.true value) ∙ c.loop-byte.invariant.reads;
+      spelled = byte_spelled c.args.digits.now c.loop-byte.byte-index c.loop-byte.number c.from.result c.loop-byte-test.true value
+          c.loop-byte.invariant.spelled;
+      reads = sym (byte_read c.args.digits.now c.loop-byte.byte-index c.loop-byte.number c.from.result c.loop-byte-test.true value)
+          ∙ c.loop-byte.invariant.reads;
     }
 
 pub returns-clause-only : goal.returns-clause-only

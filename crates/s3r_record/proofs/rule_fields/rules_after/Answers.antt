@@ -13,7 +13,8 @@ returns-in_err-rule c =
     let some = subst (λ (rules : List Rule). Fails fault (rule_at rules c.deref-in-loop.result.now left)) c.deref.ensures.value c.in_err-rule.ensures in
     let fails = subst (λ (regions : List ℕ). Fails fault (rule_at c.loop.rules.items regions left)) c.deref-in-loop.ensures.value some in
     let p = err_from_is_err_and c.from_residual.result c.from_residual.ensures.1 in
-    rw (p.1, p.2) (ends fault c.loop.rules.items c.loop.regions.items c.args.count c.loop.counter left (rules_after c.args.count [] [] (unread c.args.left)) c.loop-test.true fails c.loop.invariant)
+    rw (p.1, p.2) (ends fault c.loop.rules.items c.loop.regions.items c.args.count c.loop.counter left
+    (rules_after c.args.count [] [] (unread c.args.left)) c.loop-test.true fails c.loop.invariant)
 
 pub loop-preserved : goal.loop-preserved
 loop-preserved c =
@@ -22,7 +23,9 @@ loop-preserved c =
     let some = subst (λ (rules : List Rule). rule_at rules c.deref-in-loop.result.now left ≡ read) c.deref.ensures.value c.in_ok-rule.ensures in
     let one = subst (λ (regions : List ℕ). rule_at c.loop.rules.items regions left ≡ read) c.deref-in-loop.ensures.value some in
     rw (c.in_ok-push.ensures.items, c.in_ok-push-2.ensures.items)
-    (goes_on c.loop.rules.items c.loop.regions.items c.args.count c.loop.counter left c.in_ok-rule.rule c.in_ok-rule.region (unread c.in_ok-rule.after) (rules_after c.args.count [] [] (unread c.args.left)) c.loop-test.true one c.loop.invariant)
+    (goes_on c.loop.rules.items c.loop.regions.items c.args.count c.loop.counter left c.in_ok-rule.rule c.in_ok-rule.region (unread c.in_ok-rule.after)
+    (rules_after c.args.count [] [] (unread c.args.left)) c.loop-test.true one c.loop.invariant)
 
 pub returns : goal.returns
-returns c = is_done c.loop.rules.items c.loop.regions.items c.args.count c.loop.counter (unread c.loop.rest) (rules_after c.args.count [] [] (unread c.args.left)) c.loop-test.false c.loop.invariant
+returns c = is_done c.loop.rules.items c.loop.regions.items c.args.count c.loop.counter (unread c.loop.rest)
+    (rules_after c.args.count [] [] (unread c.args.left)) c.loop-test.false c.loop.invariant

@@ -9,7 +9,8 @@ pub unreachable-requires : goal.unreachable-requires
 unreachable-requires c =
     let rules = c.in_ok-rules.rules.items in
     let passed : is_config rules ≡ true =
-    config_read (unread c.args.left) (unread c.in_ok-count.rest) (unread c.in_ok-rules.rest) c.in_ok-count.count rules c.in_ok-rules.regions.items c.in_ok-count.ensures c.in_ok-rules.ensures in
+    config_read (unread c.args.left) (unread c.in_ok-count.rest) (unread c.in_ok-rules.rest)
+    c.in_ok-count.count rules c.in_ok-rules.regions.items c.in_ok-count.ensures c.in_ok-rules.ensures in
     not_refused (is_config rules) rules passed (sym c.in-None.ensures)
 
 pub returns : goal.returns
@@ -17,6 +18,7 @@ unfolding rules_at
 returns c =
     let rules = c.in_ok-rules.rules.items in
     let passed : is_config rules ≡ true =
-    config_read (unread c.args.left) (unread c.in_ok-count.rest) (unread c.in_ok-rules.rest) c.in_ok-count.count rules c.in_ok-rules.regions.items c.in_ok-count.ensures c.in_ok-rules.ensures in
+    config_read (unread c.args.left) (unread c.in_ok-count.rest) (unread c.in_ok-rules.rest)
+    c.in_ok-count.count rules c.in_ok-rules.regions.items c.in_ok-count.ensures c.in_ok-rules.ensures in
     let same : c.in-Some.config ≡ rules = made_of (is_config rules) rules c.in-Some.config passed c.in-Some.ensures in
     rw (c.in_ok-count.ensures, c.in_ok-rules.ensures, same, c.from_vec.ensures) refl

@@ -17,9 +17,13 @@ returns-clause-spelled c =
     let region = c.args.region ∷ [] in
     let class = option_text rule.class in
     let last = flag rule.replica_modifications in
-    let to_region : c.push.new.self.items ≡ (c.args.out.now.items ++ front) ++ region = c.in_ok-push.ensures.items ∙ ap (λ (bytes : List ℕ). bytes ++ region) c.in_ok-write_front.ensures.spelled in
-    let to_class : c.write_class.new.out.items ≡ ((c.args.out.now.items ++ front) ++ region) ++ class = c.in_ok-write_class.ensures ∙ ap (λ (bytes : List ℕ). bytes ++ class) to_region in
-    let all : front ++ back_bytes (back_for (rule, c.args.region)) ≡ rule_bytes (rule, c.args.region) = joined (front_for rule) (back_for (rule, c.args.region)) in
+    let to_region : c.push.new.self.items ≡ (c.args.out.now.items ++ front) ++ region =
+    c.in_ok-push.ensures.items ∙ ap (λ (bytes : List ℕ). bytes ++ region) c.in_ok-write_front.ensures.spelled in
+    let to_class : c.write_class.new.out.items ≡ ((c.args.out.now.items ++ front) ++ region) ++ class =
+    c.in_ok-write_class.ensures ∙ ap (λ (bytes : List ℕ). bytes ++ class) to_region in
+    let all : front ++ back_bytes (back_for (rule, c.args.region)) ≡ rule_bytes (rule, c.args.region) =
+    joined (front_for rule) (back_for (rule, c.args.region)) in
     on_ok c.write_flag.result
-    (λ e. e ∙ ap (λ (bytes : List ℕ). bytes ++ last) to_class ∙ behind c.args.out.now.items front region class last ∙ ap (λ (bytes : List ℕ). c.args.out.now.items ++ bytes) all)
+    (λ e. e ∙ ap (λ (bytes : List ℕ). bytes ++ last) to_class ∙ behind c.args.out.now.items front region class last
+    ∙ ap (λ (bytes : List ℕ). c.args.out.now.items ++ bytes) all)
     c.write_flag.ensures

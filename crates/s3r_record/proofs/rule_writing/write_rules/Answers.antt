@@ -11,15 +11,19 @@ use Rattle.s3r_record.proofs.rule_writing.write_rules.Goals as goal
 pub write_rule-requires : goal.write_rule-requires
 write_rule-requires c =
     let rule = c.index-rules-index.result in
-    subst (λ (rule : Rule). is_rule rule ≡ true) (sym c.index-rules-index.is) (all-get is_rule c.args.rules.now c.loop-index.index rule c.loop-index-test.true c.requires.ruled)
+    subst (λ (rule : Rule). is_rule rule ≡ true) (sym c.index-rules-index.is)
+    (all-get is_rule c.args.rules.now c.loop-index.index rule c.loop-index-test.true c.requires.ruled)
 
 pub loop-index-preserved : goal.loop-index-preserved
 loop-index-preserved c =
     let rules = c.args.rules.now in
     let i = c.loop-index.index in
     let rule = c.index-rules-index.result in
-    let texts : has_texts (get_or rules i rule) ≡ true = subst (λ (rule : Rule). has_texts rule ≡ true) c.index-rules-index.is c.in_ok-write_rule.ensures.texts in
+    let texts : has_texts (get_or rules i rule) ≡ true = subst (λ (rule : Rule). has_texts rule ≡ true)
+    c.index-rules-index.is c.in_ok-write_rule.ensures.texts in
     record {
-      spelled = spelled_more rules c.args.regions.now i rule c.args.out.now.items c.loop-index.out.items c.write_rule.new.out.items c.loop-index-test.true c.requires.paired c.index-rules-index.is c.loop-index.invariant.spelled c.in_ok-write_rule.ensures.spelled;
-      texts = list_all_more has_texts rules i rule c.loop-index-test.true ∙ and_from (list_all has_texts (take i rules)) (has_texts (get_or rules i rule)) c.loop-index.invariant.texts texts;
+      spelled = spelled_more rules c.args.regions.now i rule c.args.out.now.items c.loop-index.out.items c.write_rule.new.out.items c.loop-index-test.true
+          c.requires.paired c.index-rules-index.is c.loop-index.invariant.spelled c.in_ok-write_rule.ensures.spelled;
+      texts = list_all_more has_texts rules i rule c.loop-index-test.true
+          ∙ and_from (list_all has_texts (take i rules)) (has_texts (get_or rules i rule)) c.loop-index.invariant.texts texts;
     }

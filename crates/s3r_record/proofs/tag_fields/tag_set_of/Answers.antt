@@ -12,5 +12,6 @@ unreachable-requires c =
 pub returns : goal.returns
 returns c =
     let passed : is_tag_set c.in_ok-tags.tags ≡ true = set_read (unread c.args.left) (c.in_ok-tags.tags, unread c.in_ok-tags.rest) c.in_ok-tags.ensures in
-    let same : c.in-Ok.set ≡ c.into_vec.result.items = made_of (is_tag_set c.into_vec.result.items) _ c.into_vec.result.items c.in-Ok.set (ap is_tag_set c.into_vec.ensures ∙ passed) c.in-Ok.ensures in
+    let same : c.in-Ok.set ≡ c.into_vec.result.items = made_of (is_tag_set c.into_vec.result.items) _ c.into_vec.result.items c.in-Ok.set
+    (ap is_tag_set c.into_vec.ensures ∙ passed) c.in-Ok.ensures in
     rw (c.in_ok-tags.ensures, same, c.into_vec.ensures) refl

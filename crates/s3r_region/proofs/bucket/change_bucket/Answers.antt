@@ -14,9 +14,11 @@ change-requires c =
 pub returns-in-Some-clause-ok : goal.returns-in-Some-clause-ok
 returns-in-Some-clause-ok c =
     on_ok_weaker c.change.result
-    (λ e. set_at (is_named c.args.name.now) (changed c.args.change) c.args.buckets.now.items c.in-Some.place c.change.new.self c.index_mut.result.now (sym (rw c.deref.ensures.value at c.in-Some.ensures)) e c.index_mut.ensures.value)
+    (λ e. set_at (is_named c.args.name.now) (changed c.args.change) c.args.buckets.now.items c.in-Some.place c.change.new.self c.index_mut.result.now
+    (sym (rw c.deref.ensures.value at c.in-Some.ensures)) e c.index_mut.ensures.value)
     c.change.ensures.ok
 
 pub returns-in-None-clause-ok : goal.returns-in-None-clause-ok
 returns-in-None-clause-ok c =
-    sym (set_first-none (is_named c.args.name.now) (changed c.args.change) c.args.buckets.now.items (sym (rw (c.in-None.is, c.deref.ensures.value) at c.place_of.ensures)))
+    sym (set_first-none (is_named c.args.name.now) (changed c.args.change) c.args.buckets.now.items
+    (sym (rw (c.in-None.is, c.deref.ensures.value) at c.place_of.ensures)))

@@ -16,4 +16,5 @@ returns-clause-reads c =
     let value = c.in_ok-config_value.ensures ∙ ap config_data c.as_slice.ensures.listed in
     let levels = ap depth value in
     let few = flat c.args.config.now in
-    IfOk-weaker c.to_string.result _ _ (λ s h. text_back c.args.config.now s c.as_slice.ensures.lawful (h (omega arith) ∙ ap Some value)) c.to_string.ensures.reads_back
+    IfOk-weaker c.to_string.result _ _ (λ s h. text_back c.args.config.now s c.as_slice.ensures.lawful (h (omega arith) ∙ ap Some value))
+    c.to_string.ensures.reads_back

@@ -20,5 +20,6 @@ pub returns-clause-told : goal.returns-clause-told
 returns-clause-told g c = λ told text is.
     let same : c.in_ok-text.text.items ≡ text = subst (λ (r : Result (Vec ℕ Global) AllocError). IfOk r (λ bytes. bytes.items ≡ text)) c.in_ok-text.was is in
     let sends : Sends text (length text) (g.W.World.outside c.args.world.now) (g.W.World.outside c.emit_all.new.world) =
-    subst (λ (l : List ℕ). Sends l (length l) (g.W.World.outside c.args.world.now) (g.W.World.outside c.emit_all.new.world)) (c.deref.ensures.value ∙ same) (c.in_ok-emit_all.ensures.ok told) in
+    subst (λ (l : List ℕ). Sends l (length l) (g.W.World.outside c.args.world.now) (g.W.World.outside c.emit_all.new.world)) (c.deref.ensures.value ∙ same)
+    (c.in_ok-emit_all.ensures.ok told) in
     says_all text (length text) (g.W.World.outside c.args.world.now) (g.W.World.outside c.emit_all.new.world) sends (drop-length text)

@@ -1,6 +1,7 @@
 use Rattle.std.proofs.Common.{◌≡◌, ◌+◌, ◌-◌, ◌≤◌, ◌^◌, IsTrue, length}
 use Rattle.s3r_world.specs.Outside.{KeepsShape, NoneFalls, Looks}
 use Rattle.s3r_journal.specs.Scan.{IsReadTo}
+use Rattle.s3r_journal.specs.Windows.{Shows}
 use Rattle.s3r_history.specs.Words.{History}
 use Rattle.s3r_history.specs.Accepts.{IsLawful}
 use Rattle.s3r_region.specs.After.{IsAfter}
@@ -14,6 +15,7 @@ invariant-records g l = record {
   region : l.state.region ≡ l.v;
   regions : l.state.regions ≡ l.regions;
   told : IsTrue g.W.World.tells → Looks (g.W.World.outside l.fn.world) (g.W.World.outside l.world);
+  shows : IsTrue g.W.World.tells → Shows l.v l.window (g.W.World.outside l.world);
   counts : NoneFalls (g.W.World.faults l.fn.world) (g.W.World.faults l.world);
   goes : g.W.World.goes l.fn.world l.world;
   shape : KeepsShape (g.W.World.shape l.fn.world) (g.W.World.shape l.world);

@@ -9,19 +9,22 @@ loop-place-init g c = none_yet c.args.prefix.now c.args.rows.now c.args.start c.
 
 pub loop-place-preserved-then-not-has_prefix : goal.loop-place-preserved-then-not-has_prefix
 loop-place-preserved-then-not-has_prefix g c =
-    passed_over c.args.prefix.now c.args.rows.now c.args.start c.args.limit c.loop-place.place c.loop-place.entries.items c.index-rows-place.result c.loop-place.invariant c.loop-place-test.true c.index-rows-place.is
+    passed_over c.args.prefix.now c.args.rows.now c.args.start c.args.limit c.loop-place.place c.loop-place.entries.items c.index-rows-place.result
+    c.loop-place.invariant c.loop-place-test.true c.index-rows-place.is
     (sym c.has_prefix.ensures ∙ c.if-not-has_prefix.true)
 
 pub returns-then-len-limit : goal.returns-then-len-limit
 returns-then-len-limit g c =
-    cut_page c.args.prefix.now c.args.rows.now c.args.start c.args.limit c.loop-place.place c.loop-place.entries.items c.index-rows-place.result c.loop-place.invariant c.loop-place-test.true c.index-rows-place.is
+    cut_page c.args.prefix.now c.args.rows.now c.args.start c.args.limit c.loop-place.place c.loop-place.entries.items c.index-rows-place.result
+    c.loop-place.invariant c.loop-place-test.true c.index-rows-place.is
     (sym c.has_prefix.ensures ∙ c.if-not-has_prefix.false)
     (sym c.loop-place.entries.ok.0 ∙ sym c.len.ensures ∙ c.if-len-limit.true)
 
 pub loop-place-preserved : goal.loop-place-preserved
 loop-place-preserved g c =
     let row = c.index-rows-place.result in
-    one_more c.args.prefix.now c.args.rows.now c.args.start c.args.limit c.loop-place.place c.loop-place.entries.items c.push.new.self.items row c.in_ok-entry_at.field-0 c.loop-place.invariant c.loop-place-test.true c.index-rows-place.is
+    one_more c.args.prefix.now c.args.rows.now c.args.start c.args.limit c.loop-place.place c.loop-place.entries.items c.push.new.self.items row
+    c.in_ok-entry_at.field-0 c.loop-place.invariant c.loop-place-test.true c.index-rows-place.is
     (sym c.has_prefix.ensures ∙ c.if-not-has_prefix.false)
     (c.in_ok-entry_at.ensures row ∙ ap (entry_of c.args.rows.now) (sym c.index-rows-place.is))
     (λ full. c.if-len-limit.false (c.len.ensures ∙ c.loop-place.entries.ok.0 ∙ full))

@@ -14,5 +14,6 @@ returns-clause-ok c =
     let ids = c.args.ids.now.items in
     let new = sym (c.was_removed.ensures ∙ ap (was_removed c.args.id) c.deref.ensures.value) ∙ c.if-was_removed.false in
     let at = c.unwrap_or-place.ensures
-    ∙ ap₂ unwrap_or (c.place_of_id.ensures ∙ ap (position (λ other. not (is_id_before other c.args.id))) c.deref-2.ensures.value) (c.len.ensures ∙ (sym c.deref-2.ensures.len ∙ ap length c.deref-2.ensures.value)) in
+    ∙ ap₂ unwrap_or (c.place_of_id.ensures ∙ ap (position (λ other. not (is_id_before other c.args.id))) c.deref-2.ensures.value)
+    (c.len.ensures ∙ (sym c.deref-2.ensures.len ∙ ap length c.deref-2.ensures.value)) in
     c.in_ok-insert.ensures.items ∙ id_goes_to c.args.id ids c.unwrap_or-place.result new at

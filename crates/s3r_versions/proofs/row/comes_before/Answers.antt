@@ -8,8 +8,10 @@ pub returns-in-Equal : goal.returns-in-Equal
 returns-in-Equal g c =
     c.is_before.ensures
     ∙ ap₂ is_before c.first_stamp.ensures c.first_stamp-in-Equal.ensures
-    ∙ sym (comes_before-by c.args.first.now c.args.second.now _ (c.in-Equal.ensures ∙ ap₂ (slice_cmp nat_cmp) c.as_bytes.ensures.spelled c.as_bytes-2.ensures.spelled))
+    ∙ sym (comes_before-by c.args.first.now c.args.second.now _ (c.in-Equal.ensures
+    ∙ ap₂ (slice_cmp nat_cmp) c.as_bytes.ensures.spelled c.as_bytes-2.ensures.spelled))
 
 pub returns-in-Greater : goal.returns-in-Greater
 returns-in-Greater g c =
-    sym (comes_before-by c.args.first.now c.args.second.now _ (c.in-Greater.ensures ∙ ap₂ (slice_cmp nat_cmp) c.as_bytes.ensures.spelled c.as_bytes-2.ensures.spelled))
+    sym (comes_before-by c.args.first.now c.args.second.now _ (c.in-Greater.ensures
+    ∙ ap₂ (slice_cmp nat_cmp) c.as_bytes.ensures.spelled c.as_bytes-2.ensures.spelled))

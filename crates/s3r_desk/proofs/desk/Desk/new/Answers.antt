@@ -10,12 +10,17 @@ loop-v-init c = rw c.new-stores.ensures.items (record { count = refl; each = λ 
 
 pub loop-v-preserved : goal.loop-v-preserved
 loop-v-preserved c =
-    subst (λ (l : List Store). record { count : length l ≡ c.loop-v.v + 1; each : (r : ℕ) (s : Store) → slice_get l r ≡ Some s → (s.v ≡ r) × (s.regions ≡ c.args.regions) × (s.held ≡ None) }) (sym c.in_ok-push.ensures.items)
+    subst (λ (l : List Store). record {
+      count : length l ≡ c.loop-v.v + 1;
+      each : (r : ℕ) (s : Store) → slice_get l r ≡ Some s → (s.v ≡ r)
+          × (s.regions ≡ c.args.regions) × (s.held ≡ None);
+    }) (sym c.in_ok-push.ensures.items)
     (record {
       count = length-append c.loop-v.stores.items (c.new.result ∷ []) ∙ ap (λ (n : ℕ). n + 1) c.loop-v.invariant.count;
       each = λ r s get. ⊎_elim
           (λ at. c.loop-v.invariant.each r s at)
-          (λ (is, same). subst (λ (x : Store). (x.v ≡ r) × (x.regions ≡ c.args.regions) × (x.held ≡ None)) same (c.new.ensures.v ∙ sym (is ∙ c.loop-v.invariant.count), c.new.ensures.regions, c.new.ensures.unread))
+          (λ (is, same). subst (λ (x : Store). (x.v ≡ r) × (x.regions ≡ c.args.regions)
+          × (x.held ≡ None)) same (c.new.ensures.v ∙ sym (is ∙ c.loop-v.invariant.count), c.new.ensures.regions, c.new.ensures.unread))
           (get_pushed c.loop-v.stores.items c.new.result r s get);
     })
 

@@ -13,7 +13,9 @@ print-reads (Ok text) named arn self is h e reads = reads (string_bytes text) h 
 print-reads (Err error) named arn self is h e reads = tt
 
 pub returns-in-Bucket-clause-reads : goal.returns-in-Bucket-clause-reads
-returns-in-Bucket-clause-reads c = print-reads c.bucket_text.result _ _ c.args.self.now c.in-Bucket.is c.bucket_text.ensures.named c.bucket_text.ensures.text (bucket-reads c.in-Bucket.bucket)
+returns-in-Bucket-clause-reads c = print-reads c.bucket_text.result _ _ c.args.self.now c.in-Bucket.is c.bucket_text.ensures.named c.bucket_text.ensures.text
+    (bucket-reads c.in-Bucket.bucket)
 
 pub returns-in-Object-clause-reads : goal.returns-in-Object-clause-reads
-returns-in-Object-clause-reads c = print-reads c.object_text.result _ _ c.args.self.now c.in-Object.is c.object_text.ensures.named c.object_text.ensures.text (object-reads c.in-Object.bucket c.in-Object.key)
+returns-in-Object-clause-reads c = print-reads c.object_text.result _ _ c.args.self.now c.in-Object.is c.object_text.ensures.named c.object_text.ensures.text
+    (object-reads c.in-Object.bucket c.in-Object.key)

@@ -17,7 +17,8 @@ left g c =
 -- the version is there
 there : (g : _) (c : goal.After-drop g) → true ≡ is_some (find_version c.args.key.now c.args.id c.args.self.now.rows)
 there g c =
-    find_there (is_version c.args.key.now c.args.id) c.self.inside.rows.items (Some c.in-Some.place) (c.in-Some.ensures ∙ ap (position (is_version c.args.key.now c.args.id)) c.deref.ensures.value)
+    find_there (is_version c.args.key.now c.args.id) c.self.inside.rows.items (Some c.in-Some.place)
+    (c.in-Some.ensures ∙ ap (position (is_version c.args.key.now c.args.id)) c.deref.ensures.value)
     ∙ ap (λ (seen : Contents g.row.B.Denot). is_some (find_version c.args.key.now c.args.id seen.rows)) c.self.view_is
 
 pub invariant_of-self-in-Some : goal.invariant_of-self-in-Some
@@ -44,17 +45,21 @@ returns-in_ok-keep_id-in-Some-clause-removed g c =
 
 pub returns-in-None-clause-ok : goal.returns-in-None-clause-ok
 returns-in-None-clause-ok g c =
-    find_there (is_version c.args.key.now c.args.id) c.self.inside.rows.items None (sym c.in-None.is ∙ c.place_of_version.ensures ∙ ap (position (is_version c.args.key.now c.args.id)) c.deref.ensures.value)
+    find_there (is_version c.args.key.now c.args.id) c.self.inside.rows.items None
+    (sym c.in-None.is ∙ c.place_of_version.ensures ∙ ap (position (is_version c.args.key.now c.args.id)) c.deref.ensures.value)
     ∙ ap (λ (seen : Contents g.row.B.Denot). is_some (find_version c.args.key.now c.args.id seen.rows)) c.self.view_is
 
 pub returns-in-None-clause-rows : goal.returns-in-None-clause-rows
 returns-in-None-clause-rows g c =
-    let none = none_of (is_version c.args.key.now c.args.id) c.self.inside.rows.items (sym (sym c.in-None.is ∙ c.place_of_version.ensures ∙ ap (position (is_version c.args.key.now c.args.id)) c.deref.ensures.value)) in
+    let none = none_of (is_version c.args.key.now c.args.id) c.self.inside.rows.items
+    (sym (sym c.in-None.is ∙ c.place_of_version.ensures ∙ ap (position (is_version c.args.key.now c.args.id)) c.deref.ensures.value)) in
     let same = sym (filter_all (λ row. not (is_version c.args.key.now c.args.id row)) c.self.inside.rows.items none) in
-    ap (λ (seen : Contents g.row.B.Denot). seen.rows) (sym c.self.view_is) ∙ same ∙ ap (λ (seen : Contents g.row.B.Denot). without_version c.args.key.now c.args.id seen.rows) c.self.view_is
+    ap (λ (seen : Contents g.row.B.Denot). seen.rows) (sym c.self.view_is) ∙ same
+    ∙ ap (λ (seen : Contents g.row.B.Denot). without_version c.args.key.now c.args.id seen.rows) c.self.view_is
 
 pub returns-in-None-clause-removed : goal.returns-in-None-clause-removed
 returns-in-None-clause-removed g c =
-    let gone = find_there (is_version c.args.key.now c.args.id) c.self.inside.rows.items None (sym c.in-None.is ∙ c.place_of_version.ensures ∙ ap (position (is_version c.args.key.now c.args.id)) c.deref.ensures.value)
+    let gone = find_there (is_version c.args.key.now c.args.id) c.self.inside.rows.items None
+    (sym c.in-None.is ∙ c.place_of_version.ensures ∙ ap (position (is_version c.args.key.now c.args.id)) c.deref.ensures.value)
     ∙ ap (λ (seen : Contents g.row.B.Denot). is_some (find_version c.args.key.now c.args.id seen.rows)) c.self.view_is in
     ap (λ t. cond t (with_id c.args.id c.args.self.now.removed) c.args.self.now.removed) gone

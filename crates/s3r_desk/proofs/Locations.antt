@@ -1,0 +1,163 @@
+-- What read stores tell, by the histories of their regions.
+use Rattle.std.proofs.Common.{◌≡◌, ℕ, zero, suc, ◌+◌, ◌-◌, ◌<◌, cond, bytes_eq, List, [], ◌∷◌, length, Option, Some, None, IsSome, unwrap_or, refl, sym, ◌∙◌, ap, subst, arith}
+use Rattle.std.specs.Prelude.{slice_get}
+use Rattle.std.specs.Option.{option_map, option_and_then}
+use Rattle.s3r_world.specs.Outside.{Outside}
+use Rattle.s3r_rules.specs.declared.rule.Rule.{Rule}
+use Rattle.s3r_rules.specs.declared.fault.Kind.TheVariants as kind
+use Rattle.s3r_record.specs.declared.command.Command.TheVariants as command
+use Rattle.s3r_history.specs.declared.refusal.Refusal.TheVariants as refusals
+use Rattle.s3r_history.specs.Words.{Name, History}
+use Rattle.s3r_history.specs.BucketView.{told}
+use Rattle.s3r_region.specs.Contents.{Contents}
+use Rattle.s3r_region.specs.After.{seen, seen_bucket, told_by}
+use Rattle.s3r_store.specs.declared.loaded_region.LoadedRegion.{LoadedRegion}
+use Rattle.s3r_store.specs.declared.store.Store.{Store}
+use Rattle.s3r_store.specs.Knows.{Knows}
+use Rattle.s3r_store.specs.Stores.{state_of}
+use Rattle.s3r_desk.specs.declared.request.Request.{Request}
+use Rattle.s3r_desk.specs.declared.request.Request.TheVariants as request
+use Rattle.s3r_desk.specs.declared.request.Answer.TheVariants as answer
+use Rattle.s3r_desk.specs.declared.planning.Plan.{Plan}
+use Rattle.s3r_desk.specs.declared.planning.Plan.TheVariants.{Commits}
+use Rattle.s3r_desk.specs.declared.planning.Reply.TheVariants.{Is}
+use Rattle.s3r_desk.specs.Events.{Events, known, history_at}
+use Rattle.s3r_desk.specs.Keeping.{IsHeld, Keeps, AreRead}
+use Rattle.s3r_desk.specs.Lookups.{bucket_in, told_in, views_of}
+use Rattle.s3r_desk.specs.Steps.{BucketLocation, Views, or_location, location_from, location, at_location, or_wrong, kind_there, wrong_rule, first_wrong, not_taken, region_of, regions_of, unless_refused, replication, plan, views, made_of, step}
+use Rattle.s3r_desk.specs.Responds.{AreKnown}
+
+-- ---- one store
+
+none_within : {X : Type 0} (xs : List X) (r : ℕ) → r < length xs → slice_get xs r ≡ None → ⊥
+none_within [] r lt e = omega (arith, lt)
+none_within {X} (x ∷ xs) zero lt e = cc
+none_within {X} (x ∷ xs) (suc r) lt e = none_within xs r (omega (arith, lt)) e
+
+module _ (events : Events) (stores : List Store) (w : Outside) (keeps : Keeps events stores w) (read : AreRead stores) where
+  held_at : (n r : ℕ) (o : Option LoadedRegion) → IsHeld n events r o w → IsSome o → (held : LoadedRegion) × (o ≡ Some held)
+      × Knows n r held (history_at events r) w
+  held_at n r None held some = absurd cc
+  held_at n r (Some held) is some = (held, refl, subst (λ (h : History). Knows n r held h w) (sym (ap (λ (o : Option History). unwrap_or o []) is.1)) is.2)
+
+  pub known_at : (r : ℕ) (s : Store) → slice_get stores r ≡ Some s → (held : LoadedRegion) × (s.held ≡ Some held)
+      × Knows s.regions r held (history_at events r) w
+  known_at r s get = held_at s.regions r s.held (keeps r s get) (read r s get)
+
+  told_is : (b : Name) (r : ℕ) (s : Store) → slice_get stores r ≡ Some s → told_in b s ≡ told r (history_at events r) b
+  told_is b r s get =
+      let at = known_at r s get in
+      ap (λ (o : Option LoadedRegion). option_and_then (λ (state : Contents). seen state b) (option_map (λ (held : LoadedRegion). held.state) o)) at.1
+      ∙ at.2.after.buckets b
+      ∙ ap (λ (m : ℕ). told m (history_at events r) b) at.2.region
+
+  -- what the stores tell is what the histories tell
+  pub views_are : (b : Name) (r : ℕ) → r < length stores → views_of stores r b ≡ views (history_at events) r b
+  views_are b r lt = go (slice_get stores r) refl
+    where
+      go : (o : Option Store) → slice_get stores r ≡ o → option_and_then (told_in b) o ≡ told r (history_at events r) b
+      go None e = absurd (none_within stores r lt e)
+      go (Some s) e = told_is b r s e
+
+-- ---- one plan
+
+home_from_same : (r n m : ℕ) (v u : Views) (b : Name) → r + n ≡ m → ((q : ℕ) → q < m → v q b ≡ u q b) → location_from r n v b ≡ location_from r n u b
+home_from_same r zero m v u b all same = refl
+home_from_same r (suc n) m v u b all same =
+    ap (λ (t : _). or_location r t (location_from (r + 1) n v b)) (same r (omega (arith, all)))
+    ∙ ap (or_location r (u r b)) (home_from_same (r + 1) n m v u b (omega (arith, all)) same)
+
+pub home_same : (n : ℕ) (v u : Views) (b : Name) → ((r : ℕ) → r < n → v r b ≡ u r b) → location n v b ≡ location n u b
+home_same n v u b same = home_from_same 0 n n v u b (omega arith) same
+
+at_home_same : (p q : BucketLocation → Plan) → ((h : BucketLocation) → p h ≡ q h) → (o : Option BucketLocation) → at_location p o ≡ at_location q o
+at_home_same p q same None = refl
+at_home_same p q same (Some h) = same h
+
+-- a configuration's plan asks only where its destinations are, and what is told of them there
+module _ (at by : Name → Option BucketLocation) (b : Name) (same : (name : Name) → at name ≡ by name) where
+  wrong_same : (k : ℕ) (rules : List Rule) → first_wrong (wrong_rule at b) k rules ≡ first_wrong (wrong_rule by b) k rules
+  wrong_same k [] = refl
+  wrong_same k (rule ∷ rules) =
+      ap (λ o. or_wrong k (cond (bytes_eq rule.bucket b) (Some kind.SameBucket) (kind_there o)) (first_wrong (wrong_rule at b) (k + 1) rules))
+      (same rule.bucket)
+      ∙ ap (or_wrong k (wrong_rule by b rule)) (wrong_same (k + 1) rules)
+
+  regions_same : (rules : List Rule) → regions_of at rules ≡ regions_of by rules
+  regions_same [] = refl
+  regions_same (rule ∷ rules) = ap (λ o. region_of o ∷ regions_of at rules) (same rule.bucket) ∙ ap (λ rs. region_of (by rule.bucket) ∷ rs) (regions_same rules)
+
+replication_same : (at by : Name → Option BucketLocation) (b : Name) (rules : List Rule) → ((name : Name) → at name ≡ by name) → (h : BucketLocation)
+    → replication at b rules h ≡ replication by b rules h
+replication_same at by b rules same h =
+    ap (λ rs. unless_refused (Commits h.region (command.SetReplication b rules rs) (Is answer.Done)) (not_taken at b rules h)) (regions_same at by b same rules)
+    ∙ ap (λ o. unless_refused (Commits h.region (command.SetReplication b rules (regions_of by rules)) (Is answer.Done))
+    (cond h.told.enabled o (Some refusals.InvalidBucketState))) (wrong_same at by b same 1 rules)
+
+-- a request's plan asks only where its bucket is, and what is told of it there
+pub plan_same : (n : ℕ) (v u : Views) (q : Request) → ((b : Name) (r : ℕ) → r < n → v r b ≡ u r b) → plan n v q ≡ plan n u q
+plan_same n v u (request.CreateBucket name region locked) same = rw (home_same n v u name (same name)) refl
+plan_same n v u (request.HeadBucket name) same = rw (home_same n v u name (same name)) refl
+plan_same n v u (request.DeleteBucket name) same = rw (home_same n v u name (same name)) refl
+plan_same n v u (request.PutVersioning name enabled) same = rw (home_same n v u name (same name)) refl
+plan_same n v u (request.GetVersioning name) same = rw (home_same n v u name (same name)) refl
+plan_same n v u (request.PutReplication name config) same =
+    let locations : (b : Name) → location n v b ≡ location n u b = λ b. home_same n v u b (same b) in
+    ap (at_location (replication (location n v) name config)) (locations name)
+    ∙ at_home_same (replication (location n v) name config) (replication (location n u) name config)
+    (replication_same (location n v) (location n u) name config locations) (location n u name)
+plan_same n v u (request.GetReplication name) same = rw (home_same n v u name (same name)) refl
+plan_same n v u (request.DeleteReplication name) same = rw (home_same n v u name (same name)) refl
+plan_same n v u (request.ListVersions name prefix after limit) same = rw (home_same n v u name (same name)) refl
+plan_same n v u (request.PutObject b key body tags hold class) same = rw (home_same n v u b (same b)) refl
+plan_same n v u (request.GetObject b key version) same = rw (home_same n v u b (same b)) refl
+plan_same n v u (request.DeleteObject b key version) same = rw (home_same n v u b (same b)) refl
+plan_same n v u (request.PutTags b key version tags gone) same = rw (home_same n v u b (same b)) refl
+plan_same n v u (request.GetTags b key version) same = rw (home_same n v u b (same b)) refl
+plan_same n v u (request.PutHold b key version hold) same = rw (home_same n v u b (same b)) refl
+plan_same n v u (request.GetHold b key version) same = rw (home_same n v u b (same b)) refl
+
+-- ---- each region is known
+
+pub all_known : (events : Events) (stores : List Store) (w : Outside) → Keeps events stores w → AreRead stores → AreKnown (length stores) events
+all_known events stores w keeps read r lt = go (slice_get stores r) refl
+  where
+    held : (n : ℕ) (o : Option LoadedRegion) → IsHeld n events r o w → IsSome o → IsSome (known events r)
+    held n None was some = absurd cc
+    held n (Some x) was some = subst (λ (o : Option History). IsSome o) (sym was.1) refl
+
+    go : (o : Option Store) → slice_get stores r ≡ o → IsSome (known events r)
+    go None e = absurd (none_within stores r lt e)
+    go (Some s) e = held s.regions s.held (keeps r s e) (read r s e)
+
+history_of : (o : Option History) → IsSome o → o ≡ Some (unwrap_or o [])
+history_of None some = absurd cc
+history_of (Some h) some = refl
+
+-- so its history is known
+pub known_here : (events : Events) (stores : List Store) (w : Outside) → Keeps events stores w → AreRead stores → (r : ℕ) → r < length stores
+    → known events r ≡ Some (history_at events r)
+known_here events stores w keeps read r lt = history_of (known events r) (all_known events stores w keeps read r lt)
+
+-- the step that a plan over the stores makes
+pub step_is : (events : Events) (stores : List Store) (w : Outside) → Keeps events stores w → AreRead stores → (q : Request)
+    → step (length stores) (history_at events) q ≡ made_of (length stores) (history_at events) (plan (length stores) (views_of stores) q)
+step_is events stores w keeps read q =
+    ap (made_of (length stores) (history_at events)) (sym (plan_same (length stores) (views_of stores) (views (history_at events)) q
+    (λ b r lt. views_are events stores w keeps read b r lt)))
+
+-- a region that doesn't have the bucket is passed over
+pub home_on : (n r : ℕ) (v : Views) (b : Name) (h : Option BucketLocation) → r < n → v r b ≡ None → location_from r (n - r) v b ≡ h
+    → location_from (r + 1) (n - (r + 1)) v b ≡ h
+home_on n r v b h lt none at =
+    let one : n - r ≡ suc (n - (r + 1)) = omega arith in
+    sym (ap (λ t. or_location r t (location_from (r + 1) (n - (r + 1)) v b)) none) ∙ sym (ap (λ k. location_from r k v b) one) ∙ at
+
+-- a store that doesn't show a bucket tells nothing of it
+pub untold : (b : Name) (s : Store) → bucket_in b s ≡ None → told_in b s ≡ None
+untold b s none = go (state_of s) none
+  where
+    go : (o : Option Contents) → option_and_then (λ (state : Contents). seen_bucket state b) o ≡ None
+        → option_and_then (λ (state : Contents). seen state b) o ≡ None
+    go None e = refl
+    go (Some state) e = ap (option_map told_by) e
