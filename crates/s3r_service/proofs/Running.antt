@@ -13,7 +13,7 @@ use Rattle.s3r_service.specs.declared.stop.Ending.{Ending}
 use Rattle.s3r_service.specs.declared.stop.Stop.{Stop}
 use Rattle.s3r_service.specs.declared.stop.Stop.TheVariants as stop
 use Rattle.s3r_service.specs.Passing.{Passes}
-use Rattle.s3r_service.specs.Turns.{Outcome, Turn, IsCounted, IsAnswered, IsRight, events_of, input_of, AreTurns, AreCounted, fails_at, failures, events_in, text_in, turns_with}
+use Rattle.s3r_service.specs.Turns.{Outcome, Turn, IsCounted, IsAnswered, IsRight, events_of, input_of, AreTurns, AreCounted, fails_at, failures, events_in, text_in, turns_with, Occasion, request_came, text_of, AreItsFaults, fails_in}
 use Rattle.s3r_http.specs.declared.message.HttpFault.{HttpFault}
 use Rattle.s3r_http.specs.declared.message.HttpFault.TheVariants as http
 use Rattle.s3r_service.specs.Served.{IsEnd, Served, stop_of}
@@ -60,12 +60,15 @@ fails_by v (Ok (Err (faults.Damaged u offset))) a b falls counted = omega (arith
 fails_by v (Ok (Err faults.OutOfMemory)) a b falls counted = omega (arith, falls.volume v)
 fails_by v (Err problem) a b falls counted = omega (arith, falls.volume v)
 
+fails_in_by : (v : ℕ) (occasion : Occasion) (a b : Counts) → NoneFalls a b → AreItsFaults occasion a b → Rises (fails_in v occasion) (a.volume v) (b.volume v)
+fails_in_by v (request_came raw text outcome) a b falls counted = fails_by v outcome a b falls counted
+
 -- one turn more
-sum_one : (v by : ℕ) (t : Turn) (a b : Counts) → NoneFalls t.before t.after → IsCounted t.outcome t.before t.after → NoneFalls t.after b
+sum_one : (v by : ℕ) (t : Turn) (a b : Counts) → NoneFalls t.before t.after → AreItsFaults t.occasion t.before t.after → NoneFalls t.after b
     → Rises by (a.volume v) (t.before.volume v)
-    → Rises (by + fails_at v t.outcome) (a.volume v) (b.volume v)
-sum_one v by t a b counts counted falls sum = rises_then by (fails_at v t.outcome) (a.volume v) (t.before.volume v) (b.volume v) sum
-    (rises_before (fails_at v t.outcome) (t.before.volume v) (t.after.volume v) (b.volume v) (fails_by v t.outcome t.before t.after counts counted)
+    → Rises (by + fails_in v t.occasion) (a.volume v) (b.volume v)
+sum_one v by t a b counts counted falls sum = rises_then by (fails_in v t.occasion) (a.volume v) (t.before.volume v) (b.volume v) sum
+    (rises_before (fails_in v t.occasion) (t.before.volume v) (t.after.volume v) (b.volume v) (fails_in_by v t.occasion t.before t.after counts counted)
     (falls.volume v))
 
 sum_turns : (n : ℕ) (room : ℕ → ℕ) (start : Image) (turns : List Turn) (a b : Counts) (v : ℕ) → AreTurns n room start turns → AreCounted a turns b
@@ -111,7 +114,7 @@ module _ (n : ℕ) (room : ℕ → ℕ) (turns : List Turn) (stream rest left : 
           was.right,
         );
         parts = was.parts ∙ ap (λ (l : List ℕ). input_of turns ++ l) (did.text ∙ ap (λ (o : Option Turn). text_in o ++ rest) did.ends.2)
-            ∙ sym (append_assoc (input_of turns) one.text rest);
+            ∙ sym (append_assoc (input_of turns) (text_of one.occasion) rest);
         passes = passes_then n (events_of turns) (answered one.sent ∷ one.step) start mid new was.passes
             (subst (λ (l : Events). Passes n l mid new) events_are did.passes);
         keeps = subst (λ (l : Events). Keeps (l ++ events_of turns) stores' new) events_are did.keeps;
@@ -124,8 +127,8 @@ module _ (n : ℕ) (room : ℕ → ℕ) (turns : List Turn) (stream rest left : 
   served : (result : Result Ending Stop) (turn : Option Turn) (closing : Events) → IfSome turn (IsAnswered n room (events_of turns) mid.as_read)
       → stream ≡ text_in turn ++ rest → Passes n (closing ++ events_in turn) mid new
       → IsEnd result (length turns) turn closing rest new.input → AreCounted b (turns_with turn []) d → new.connections ≡ mid.connections
-      → Served n room result start new a d
-  served result turn closing right text passes ends here connections =
+      → (taken : List ℕ) → rest ≡ taken ++ new.input → Served n room result start new a d
+  served result turn closing right text passes ends here connections taken rest_is =
       let counted = counted_with a b d turns turn was.counted here in
       record {
         conversation = record {
@@ -137,6 +140,8 @@ module _ (n : ℕ) (room : ℕ → ℕ) (turns : List Turn) (stream rest left : 
           is_right = right_at turn right;
           parts = was.parts ∙ ap (λ (l : List ℕ). input_of turns ++ l) text;
           passes = passes_then n (events_of turns) (closing ++ events_in turn) start mid new was.passes passes;
+          taken = taken;
+          rest_is = rest_is;
           ends = ends;
           counted = counted;
           faults = λ v. sum_all n room start.as_read turns turn a d v was.right (right_at turn right) counted;
@@ -145,18 +150,20 @@ module _ (n : ℕ) (room : ℕ → ℕ) (turns : List Turn) (stream rest left : 
       }
 
   pub served_ending : (ending : Ending) → length turns < 65536 → Serves n room (events_of turns) (Ok (Some ending)) stream rest new.input stores' mid new b d
-      → Served n room (Ok ending) start new a d
-  served_ending ending few did = served (Ok ending) did.turn did.closing did.right did.text did.passes (did.ends (length turns) few) did.counted did.connections
+      → (taken : List ℕ) → rest ≡ taken ++ new.input → Served n room (Ok ending) start new a d
+  served_ending ending few did taken rest_is =
+      served (Ok ending) did.turn did.closing did.right did.text did.passes (did.ends (length turns) few) did.counted did.connections taken rest_is
 
   pub served_stop : (stop : Stop) → length turns < 65536 → Serves n room (events_of turns) (Err stop) stream rest new.input stores' mid new b d
-      → Served n room (Err stop) start new a d
-  served_stop stop few did = served (Err stop) did.turn did.closing did.right did.text did.passes (did.ends (length turns) few) did.counted did.connections
+      → (taken : List ℕ) → rest ≡ taken ++ new.input → Served n room (Err stop) start new a d
+  served_stop stop few did taken rest_is =
+      served (Err stop) did.turn did.closing did.right did.text did.passes (did.ends (length turns) few) did.counted did.connections taken rest_is
 
   pub served_behind : (result : Result Ending Stop) → length turns ≡ 65536 → stream ≡ rest → KeepsVolumes mid new → new.connections ≡ mid.connections
-      → NoneFalls b d → Limits result rest new.input → Served n room result start new a d
-  served_behind result all same keeps connections falls ends =
+      → NoneFalls b d → Limits result rest new.input → (taken : List ℕ) → rest ≡ taken ++ new.input → Served n room result start new a d
+  served_behind result all same keeps connections falls ends taken rest_is =
       served result None [] tt same (passes_none n mid new keeps) (subst (λ (count : ℕ). IsEnd result count None [] rest new.input) (sym all) ends)
-      falls connections
+      falls connections taken rest_is
 
 -- the input failed, or there was no memory, where only one byte more was asked for
 pub limits_fault : (fault : HttpFault) (s : Stop) → s ≡ stop_of fault → (fault ≡ http.Input) ⊎ (fault ≡ http.OutOfMemory) → (rest left : List ℕ)
@@ -178,6 +185,8 @@ served_none n room w a = record {
     is_right = tt;
     parts = refl;
     passes = passes_none n w w (keeps_all w);
+    taken = [];
+    rest_is = refl;
     ends = inl (omega arith, refl);
     counted = falls_none a;
     faults = λ v. omega arith;

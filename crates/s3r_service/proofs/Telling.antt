@@ -32,7 +32,7 @@ use Rattle.s3r_service.specs.declared.stop.Stop.{Stop}
 use Rattle.s3r_service.specs.declared.stop.Stop.TheVariants as stop
 use Rattle.s3r_service.specs.Sends.{Sends}
 use Rattle.s3r_service.specs.Passing.{Passes}
-use Rattle.s3r_service.specs.Turns.{Outcome, Turn, answer_to, IsStepOf, IsCounted, IsAnswered, events_in}
+use Rattle.s3r_service.specs.Turns.{Outcome, request_came, Turn, answer_to, reply_of, is_last, IsStepOf, IsCounted, IsAnswered, events_in}
 use Rattle.s3r_service.specs.Served.{stop_of, IsRefused, IsIncomplete}
 use Rattle.s3r_service.specs.Serving.{Says, Replies, AnswersOne, EndsOne, Serves}
 use Rattle.s3r_service.proofs.Fronts.{sends_none}
@@ -163,13 +163,15 @@ module _ (n : ℕ) (room room' : ℕ → ℕ) (before : Events) (raw : RawReques
     (rooms : room' ≡ room) (falls : NoneFalls a b) (reads : KeepsVolumes old mid) (connections : mid.connections ≡ old.connections)
     (spells : SpellsRequest raw text) (is : stream ≡ text ++ (input ++ mid.input)) (did : AnswersOne n room' before raw r stores mid new b d) where
   abbrev pub turn : Turn
-  turn = record { raw = raw; text = text; outcome = did.outcome; step = did.step; sent = did.sent; before = b; after = d }
+  turn = record { occasion = request_came raw text did.outcome; step = did.step; sent = did.sent; before = b; after = d }
 
   right : IsAnswered n room before old.as_read turn
   right = record {
-    spells = spells;
-    step = subst (λ (x : ℕ → ℕ). IsStepOf n x before old.as_read (request_of raw) did.outcome did.step) rooms
-        (subst (λ (c : Image). IsStepOf n room' before c (request_of raw) did.outcome did.step) reads.as_read did.is);
+    comes = (
+      spells,
+      subst (λ (x : ℕ → ℕ). IsStepOf n x before old.as_read (request_of raw) did.outcome did.step) rooms
+          (subst (λ (c : Image). IsStepOf n room' before c (request_of raw) did.outcome did.step) reads.as_read did.is),
+    );
     more = did.more;
     front = did.front;
     counted = did.counted;
@@ -228,11 +230,11 @@ module _ (n : ℕ) (room : ℕ → ℕ) (before : Events) (stream rest left : Li
 
 -- ---- how one request ends the run, or doesn't
 
-module _ (t : Turn) (more rest left : List ℕ) (front : answer_to t.raw t.outcome ≡ t.sent ++ more) (whole : more ≡ []) where
-  all_sent : t.sent ≡ answer_to t.raw t.outcome
+module _ (t : Turn) (more rest left : List ℕ) (front : reply_of t.occasion ≡ t.sent ++ more) (whole : more ≡ []) where
+  all_sent : t.sent ≡ reply_of t.occasion
   all_sent = sym (front ∙ ap (λ (l : List ℕ). t.sent ++ l) whole ∙ append-nil t.sent)
 
-  pub ends_answered : (last : Bool) → t.raw.last ≡ last → (o : Option Ending) → o ≡ cond last (Some Over) None → EndsOne (Ok o) (Some t) [] rest left
+  pub ends_answered : (last : Bool) → is_last t.occasion ≡ last → (o : Option Ending) → o ≡ cond last (Some Over) None → EndsOne (Ok o) (Some t) [] rest left
   ends_answered true is o e = subst (λ (x : Option Ending). EndsOne (Ok x) (Some t) [] rest left) (sym e) (λ count lt. (refl, inr (lt, t, refl, all_sent, is)))
   ends_answered false is o e = subst (λ (x : Option Ending). EndsOne (Ok x) (Some t) [] rest left) (sym e) (refl, t, refl, (all_sent, is))
 

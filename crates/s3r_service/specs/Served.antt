@@ -1,5 +1,5 @@
 -- What a run has done, by how it ended.
-use Rattle.std.specs.Prelude.{◌≡◌, ◌≢◌, ◌⊎◌, ◌==◌, ℕ, ◌+◌, ◌<◌, ◌≤◌, true, false, List, [], ◌∷◌, ◌++◌, length, Option, Some, None, IfSome, IsSome, Result, Ok, Err, IsTrue}
+use Rattle.std.specs.Prelude.{◌≡◌, ◌≢◌, ◌⊎◌, ◌==◌, ℕ, ◌+◌, ◌<◌, ◌≤◌, true, false, List, [], ◌∷◌, ◌++◌, length, Option, Some, None, IfSome, IsSome, IsSomeAnd, Result, Ok, Err, IsTrue}
 use Rattle.std.specs.List.{list_any}
 use Rattle.s3r_world.specs.Image.{Image}
 use Rattle.s3r_world.specs.Outside.{Outside, Elapses, Counts, Rises}
@@ -19,7 +19,8 @@ use Rattle.s3r_service.specs.declared.stop.Ending.TheVariants.{Over, Refused, Li
 use Rattle.s3r_service.specs.declared.stop.Stop.{Stop}
 use Rattle.s3r_service.specs.declared.stop.Stop.TheVariants.{Input, Output, OutOfMemory}
 use Rattle.s3r_service.specs.Passing.{Passes}
-use Rattle.s3r_service.specs.Turns.{Turn, answer_to, IsRight, events_of, input_of, AreTurns, AreCounted, failures, events_in, text_in, turns_with}
+use Rattle.s3r_service.specs.Words.{Task, serving, Meaning}
+use Rattle.s3r_service.specs.Turns.{Turn, reply_of, is_last, IsRight, events_of, input_of, AreTurns, AreCounted, failures, events_in, text_in, turns_with}
 
 abbrev pub status_of_ending : Ending → ℕ
 status_of_ending Over = 0
@@ -65,7 +66,7 @@ IsIncomplete taken = (raw : RawRequest) (text more : List ℕ) → SpellsRequest
 -- there are no more bytes, or the final request said that it is the last one
 abbrev pub IsOver : ℕ → Option Turn → List ℕ → Type 0
 IsOver count final rest = ((count ≤ 65536) × (final ≡ None) × (rest ≡ []))
-    ⊎ ((count < 65536) × (t : Turn) × (final ≡ Some t) × (t.sent ≡ answer_to t.raw t.outcome) × (t.raw.last ≡ true))
+    ⊎ ((count < 65536) × (t : Turn) × (final ≡ Some t) × (t.sent ≡ reply_of t.occasion) × (is_last t.occasion ≡ true))
 
 -- Nothing is out of the last answer: that to the final request, or the one to a front that is refused.
 abbrev pub IsUnsaid : ℕ → Option Turn → Events → List ℕ → Type 0
@@ -94,6 +95,9 @@ pub record Conversation (n : ℕ) (room : ℕ → ℕ) (result : Result Ending S
   pub is_right : IfSome final (IsRight n room old.as_read (events_of turns))
   pub parts : stream ≡ input_of turns ++ (text_in final ++ rest)
   pub passes : Passes n ((closing ++ events_in final) ++ events_of turns) old new
+  -- what was taken of the rest, and what wasn't
+  pub taken : List ℕ
+  pub rest_is : rest ≡ taken ++ left
   pub ends : IsEnd result (length turns) final closing rest left
   pub counted : AreCounted before (turns_with final turns) after
   -- an answer that a volume failed has its fault, each its own
@@ -118,10 +122,14 @@ pub record StaysSound (n : ℕ) (old new : Outside) : Type 0 where
   pub time : Elapses old new (IsSoundImage n)
   pub now : IsSound n new
 
--- a run with this status
-abbrev pub Ran : ℕ → ℕ → (ℕ → ℕ) → Outside → Outside → Counts → Counts → Type 0
-Ran status n room old new before after = (result : Result Ending Stop) × (status ≡ status_of result) × Served n room result old new before after
+-- what a run of a task has done, by the status that it ended with
+abbrev pub Ran : Task → ℕ → ℕ → (ℕ → ℕ) → Outside → Outside → Counts → Counts → Type 0
+Ran serving status n room old new before after = (result : Result Ending Stop) × (status ≡ status_of result) × Served n room result old new before after
 
--- the statuses that the program ends with
-abbrev pub IsStatus : ℕ → Type 0
-IsStatus status = IsTrue (list_any (λ s. s == status) (0 ∷ 1 ∷ 2 ∷ 3 ∷ 4 ∷ 6 ∷ 10 ∷ []))
+-- a status that a task ends with
+abbrev pub EndsWith : Task → ℕ → Type 0
+EndsWith serving status = IsTrue (list_any (λ s. s == status) (0 ∷ 1 ∷ 3 ∷ 4 ∷ 6 ∷ 10 ∷ []))
+
+-- the words aren't the program's, or their task ends with this status
+abbrev pub IsStatus : Option Meaning → ℕ → Type 0
+IsStatus meaning status = (status ≡ 2) ⊎ IsSomeAnd meaning (λ m. EndsWith m.task status)

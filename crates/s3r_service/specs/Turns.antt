@@ -1,5 +1,5 @@
--- Requests, and what each came to.
-use Rattle.std.specs.Prelude.{◌≡◌, ℕ, ◌+◌, ◌==◌, false, List, [], ◌∷◌, ◌++◌, Option, Some, None, Result, Ok, Err, if◌then◌else◌}
+-- Turns, and what each came to.
+use Rattle.std.specs.Prelude.{◌≡◌, ℕ, ◌+◌, ◌==◌, Bool, false, List, [], ◌∷◌, ◌++◌, Option, Some, None, Result, Ok, Err, if◌then◌else◌}
 use Rattle.s3r_world.specs.Image.{Image}
 use Rattle.s3r_world.specs.Outside.{Counts, NoneFalls, Rises}
 use Rattle.s3r_store.specs.Stands.{StandsFor}
@@ -21,12 +21,15 @@ use Rattle.s3r_service.specs.Passing.{Brings}
 abbrev pub Outcome : Type 0
 Outcome = Result (Result Answer DeskFault) Problem
 
--- A request and its text, its outcome, what happened to the regions, what was put out of its answer, and the counts of
--- faults at its start and its end.
+-- why a turn was made
+pub data Occasion : Type 0 where
+  -- a request of this text came, and had this outcome
+  request_came : (raw : RawRequest) (text : List ℕ) (outcome : Outcome) → Occasion
+
+-- Its occasion, what happened to the regions, what was put out of its reply, and the counts of faults at its start and its
+-- end.
 pub record Turn : Type 0 where
-  pub raw : RawRequest
-  pub text : List ℕ
-  pub outcome : Outcome
+  pub occasion : Occasion
   pub step : Events
   pub sent : List ℕ
   pub before : Counts
@@ -51,13 +54,34 @@ IsCounted (Ok (Err (faults.Damaged v offset))) before after = Unit {0}
 IsCounted (Ok (Err faults.OutOfMemory)) before after = Unit {0}
 IsCounted (Err problem) before after = Unit {0}
 
--- The turn is that of its request, behind these events.
+-- ---- what an occasion has
+
+-- the bytes that were taken for it
+abbrev pub text_of : Occasion → List ℕ
+text_of (request_came raw text outcome) = text
+
+-- the bytes that are to be put out
+abbrev pub reply_of : Occasion → List ℕ
+reply_of (request_came raw text outcome) = answer_to raw outcome
+
+-- no other follows it
+abbrev pub is_last : Occasion → Bool
+is_last (request_came raw text outcome) = raw.last
+
+-- it came to this step, with the volumes as they are seen
+abbrev pub ComesTo : ℕ → (ℕ → ℕ) → Events → Image → Occasion → Events → Type 0
+ComesTo n room before seen (request_came raw text outcome) step = SpellsRequest raw text × IsStepOf n room before seen (request_of raw) outcome step
+
+-- the faults that it tells were counted
+abbrev pub AreItsFaults : Occasion → Counts → Counts → Type 0
+AreItsFaults (request_came raw text outcome) before after = IsCounted outcome before after
+
+-- The turn is that of its occasion, behind these events.
 pub record IsAnswered (n : ℕ) (room : ℕ → ℕ) (before : Events) (seen : Image) (t : Turn) : Type 0 where
-  pub spells : SpellsRequest t.raw t.text
-  pub step : IsStepOf n room before seen (request_of t.raw) t.outcome t.step
+  pub comes : ComesTo n room before seen t.occasion t.step
   pub more : List ℕ
-  pub front : answer_to t.raw t.outcome ≡ t.sent ++ more
-  pub counted : IsCounted t.outcome t.before t.after
+  pub front : reply_of t.occasion ≡ t.sent ++ more
+  pub counted : AreItsFaults t.occasion t.before t.after
   pub counts : NoneFalls t.before t.after
 
 -- So it is, the volumes being what the events have brought since the start.
@@ -66,9 +90,9 @@ pub record IsRight (n : ℕ) (room : ℕ → ℕ) (start : Image) (before : Even
   pub since : Brings n before start seen
   pub answered : IsAnswered n room before seen t
 
--- the whole answer is out, and another request may follow
+-- the whole reply is out, and another turn may follow
 abbrev pub GoesOn : Turn → Type 0
-GoesOn t = (t.sent ≡ answer_to t.raw t.outcome) × (t.raw.last ≡ false)
+GoesOn t = (t.sent ≡ reply_of t.occasion) × (is_last t.occasion ≡ false)
 
 -- ---- turns, the newest first
 
@@ -78,7 +102,7 @@ events_of (t ∷ earlier) = answered t.sent ∷ (t.step ++ events_of earlier)
 
 abbrev pub input_of : List Turn → List ℕ
 input_of [] = []
-input_of (t ∷ earlier) = input_of earlier ++ t.text
+input_of (t ∷ earlier) = input_of earlier ++ text_of t.occasion
 
 -- each is right, and goes on
 abbrev pub AreTurns : ℕ → (ℕ → ℕ) → Image → List Turn → Type 0
@@ -99,10 +123,14 @@ fails_at v (Ok (Err (faults.Damaged u offset))) = 0
 fails_at v (Ok (Err faults.OutOfMemory)) = 0
 fails_at v (Err problem) = 0
 
+-- the occasion's is
+abbrev pub fails_in : ℕ → Occasion → ℕ
+fails_in v (request_came raw text outcome) = fails_at v outcome
+
 -- how many of them are
 abbrev pub failures : ℕ → List Turn → ℕ
 failures v [] = 0
-failures v (t ∷ earlier) = failures v earlier + fails_at v t.outcome
+failures v (t ∷ earlier) = failures v earlier + fails_in v t.occasion
 
 -- ---- one turn or none
 
@@ -112,7 +140,7 @@ events_in (Some t) = answered t.sent ∷ t.step
 
 abbrev pub text_in : Option Turn → List ℕ
 text_in None = []
-text_in (Some t) = t.text
+text_in (Some t) = text_of t.occasion
 
 -- it comes behind these
 abbrev pub turns_with : Option Turn → List Turn → List Turn

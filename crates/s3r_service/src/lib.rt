@@ -2,10 +2,10 @@
 //! command is stable in the volume of its region. The words of the program say over which regions.
 #![tactic(auto)]
 
-ghost use Rattle.std.specs.Prelude.{◌≡◌, ◌↔◌, map, string_bytes, IsTrue};
+ghost use Rattle.std.specs.Prelude.{◌≡◌, ◌↔◌, map, string_bytes, Some, IsTrue};
 ghost use Rattle.s3r_world.specs.Outside.{KeepsShape, NoneFalls, Rises};
 ghost use Rattle.s3r_service.specs.Served.{Ran, IsSound, StaysSound, IsStatus};
-ghost use Rattle.s3r_service.specs.Words.{AreMeant};
+ghost use Rattle.s3r_service.specs.Words.{Meaning, AreMeant, words_in};
 
 mod laws;
 mod sending;
@@ -28,11 +28,12 @@ const NOT_MEANT: u8 = 2;
 pub fn s3r<W: World>(alloc: Global, words: &[String], world: &mut W) -> u8
     ensures meant { (result ≡ 2) ↔ (AreMeant (map string_bytes words.now) ((W.shape world.old).volumes) → ⊥) }
     ensures unmeant { result ≡ 2 → world.new ≡ world.old }
-    ensures known { IsStatus result }
+    ensures known { IsStatus (words_in (map string_bytes words.now)) result }
 
     // Which requests were taken, what each came to, and what a crash at each moment may leave.
-    ensures done { IsTrue W.tells → AreMeant (map string_bytes words.now) ((W.shape world.old).volumes) →
-        Ran result (W.shape world.old).volumes (W.shape world.old).room (W.outside world.old) (W.outside world.new) (W.faults world.old) (W.faults world.new) }
+    ensures done { IsTrue W.tells → (meaning : Meaning) → words_in (map string_bytes words.now) ≡ Some meaning →
+        meaning.place.regions ≡ (W.shape world.old).volumes →
+        Ran meaning.task result (W.shape world.old).volumes (W.shape world.old).room (W.outside world.old) (W.outside world.new) (W.faults world.old) (W.faults world.new) }
 
     // Volumes that stand for lawful histories do so after a crash at any moment.
     ensures sound { IsTrue W.tells → AreMeant (map string_bytes words.now) ((W.shape world.old).volumes)

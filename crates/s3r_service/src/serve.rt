@@ -137,6 +137,7 @@ fn serve_one<W: World>(
 // Whether the input goes on behind the last request.
 fn ending_behind<W: World>(world: &mut W, buffer: &mut Buffer) -> Result<Ending, Stop>
     ensures told { IsTrue W.tells → Limits result (buffer.old ++ (W.outside world.old).input) (W.outside world.new).input }
+    ensures kept { IsTrue W.tells → buffer.new ++ (W.outside world.new).input ≡ buffer.old ++ (W.outside world.old).input }
     ensures connections { IsTrue W.tells → (W.outside world.new).connections ≡ (W.outside world.old).connections }
     ensures volumes { IsTrue W.tells → KeepsVolumes (W.outside world.old) (W.outside world.new) }
     ensures cause { IfErr result (λ stop. HasCause stop (W.faults world.old) (W.faults world.new)) }

@@ -1,7 +1,7 @@
 // The words that the program is started with, without its name.
 ghost use Rattle.std.specs.Prelude.{◌≡◌, map, string_bytes, IfOk};
 ghost use Rattle.std.specs.Option.{option_map};
-ghost use Rattle.s3r_service.specs.Words.{regions_in, words_seen, place_seen, words_in};
+ghost use Rattle.s3r_service.specs.Words.{regions_in, words_seen, place_seen, words_in, place_in};
 
 use std::alloc::{AllocError, Global};
 
@@ -53,7 +53,7 @@ pub fn read_words(words: &[String]) -> Option<Words<'_>>
 
 /// The place that the words name. None exactly where they aren't words of the program.
 pub fn place_of(alloc: Global, words: &[String]) -> Result<Option<Place>, AllocError>
-    ensures { IfOk result (λ place. option_map place_seen place ≡ words_in (map string_bytes words.now)) }
+    ensures { IfOk result (λ place. option_map place_seen place ≡ place_in (map string_bytes words.now)) }
 {
     let Some(words) = read_words(words) else {
         return Ok(None);

@@ -96,7 +96,7 @@ returns-in_err-ending-clause-served g c = λ told.
     let p = err_from_is_err_and c.from_residual-in_err-ending.result c.from_residual-in_err-ending.ensures.1 in
     rw (p.1, p.2) (served_stop c.args.regions room was.0 stream rest end.input c.loop.desk.stores.items c.serve_one.new.desk.stores.items start mid end
     (g.W.World.faults c.args.world.now) (g.W.World.faults c.loop.world) (g.W.World.faults c.serve_one.new.world) was.2 c.in_err-ending.field-0.0
-    (omega (arith, was.1, c.loop-test.true)) did)
+    (omega (arith, was.1, c.loop-test.true)) did c.serve_one.new.buffer refl)
 
 pub returns-in-Some-clause-served : goal.returns-in-Some-clause-served
 returns-in-Some-clause-served g c = λ told.
@@ -114,7 +114,7 @@ returns-in-Some-clause-served g c = λ told.
     c.loop.invariant.count rooms (ap (λ (o : Option Ending). Ok o) c.in-Some.is) (c.in_ok-ending.ensures.told told (events_of was.0) was.2.keeps) in
     served_ending c.args.regions room was.0 stream rest end.input c.loop.desk.stores.items c.serve_one.new.desk.stores.items start mid end
     (g.W.World.faults c.args.world.now) (g.W.World.faults c.loop.world) (g.W.World.faults c.serve_one.new.world) was.2 c.in-Some.ending
-    (omega (arith, was.1, c.loop-test.true)) did
+    (omega (arith, was.1, c.loop-test.true)) did c.serve_one.new.buffer refl
 
 pub returns-clause-served : goal.returns-clause-served
 returns-clause-served g c = λ told.
@@ -128,3 +128,4 @@ returns-clause-served g c = λ told.
     (g.W.World.faults c.args.world.now) (g.W.World.faults c.loop.world) (g.W.World.faults c.ending_behind.new.world) was.2
     c.ending_behind.result (omega (arith, was.1, c.loop-test.false, c.loop.auto.counter-end)) refl (c.ending_behind.ensures.volumes told)
     (c.ending_behind.ensures.connections told) c.ending_behind.ensures.counts (c.ending_behind.ensures.told told)
+    c.ending_behind.new.buffer (sym (c.ending_behind.ensures.kept told))

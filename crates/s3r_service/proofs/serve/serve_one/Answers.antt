@@ -9,6 +9,7 @@ use Rattle.s3r_http.specs.Request.{ReadsSome}
 use Rattle.s3r_api.specs.Texts.{problem_text}
 use Rattle.s3r_service.specs.declared.stop.Stop.{Stop}
 use Rattle.s3r_service.specs.declared.stop.Ending.TheVariants.{Over, Refused}
+use Rattle.s3r_service.specs.Turns.{request_came}
 use Rattle.s3r_service.proofs.Telling.{serves_turn, serves_none, serves_closing, ends_answered, ends_cut, refused_by, ends_refused, ends_refusal_cut, ends_unread}
 use Rattle.s3r_service.proofs.serve.serve_one.Goals as goal
 
@@ -39,9 +40,7 @@ returns-in_err-answer_one-in-Ok-Some-clause-told g c = λ told before keeps.
     (g.W.World.faults c.answer_one.new.world) rooms c.read_request.ensures.counts reads (c.read_request.ensures.connections told) read.1 read.2 did
     (Err c.in_err-answer_one-in-Ok-Some.field-0.0) (ends_cut c.in_err-answer_one-in-Ok-Some.field-0.0 c.in_err-answer_one-in-Ok-Some.ensures.stop
     (record {
-      raw = c.in-Ok-Some.raw;
-      text = read.0;
-      outcome = did.outcome;
+      occasion = request_came c.in-Ok-Some.raw read.0 did.outcome;
       step = did.step;
       sent = did.sent;
       before =
@@ -66,9 +65,7 @@ returns-in_ok-answer_one-in-Ok-Some-clause-told g c = λ told before keeps.
     start mid end (g.W.World.faults c.args.world.now) (g.W.World.faults c.read_request.new.world)
     (g.W.World.faults c.answer_one.new.world) rooms c.read_request.ensures.counts reads (c.read_request.ensures.connections told) read.1 read.2 did
     (Ok c.ending_after.result) (ends_answered (record {
-      raw = c.in-Ok-Some.raw;
-      text = read.0;
-      outcome = did.outcome;
+      occasion = request_came c.in-Ok-Some.raw read.0 did.outcome;
       step = did.step;
       sent =
           did.sent;
