@@ -25,7 +25,7 @@ use Rattle.s3r_desk.specs.Events.{Events, known, history_at}
 use Rattle.s3r_desk.specs.Keeping.{IsHeld, Keeps, AreRead}
 use Rattle.s3r_desk.specs.Lookups.{bucket_in, told_in, views_of}
 use Rattle.s3r_desk.specs.Steps.{BucketLocation, Views, or_location, location_from, location, at_location, or_wrong, kind_there, wrong_rule, first_wrong, not_taken, region_of, regions_of, unless_refused, replication, plan, views, made_of, step}
-use Rattle.s3r_desk.specs.Responds.{AreKnown}
+use Rattle.s3r_desk.specs.Responds.{IsBelow, AreKnown}
 
 -- ---- one store
 
@@ -119,7 +119,7 @@ plan_same n v u (request.GetHold b key version) same = rw (home_same n v u b (sa
 
 -- ---- each region is known
 
-pub all_known : (events : Events) (stores : List Store) (w : Outside) → Keeps events stores w → AreRead stores → AreKnown (length stores) events
+pub all_known : (events : Events) (stores : List Store) (w : Outside) → Keeps events stores w → AreRead stores → AreKnown (IsBelow (length stores)) events
 all_known events stores w keeps read r lt = go (slice_get stores r) refl
   where
     held : (n : ℕ) (o : Option LoadedRegion) → IsHeld n events r o w → IsSome o → IsSome (known events r)

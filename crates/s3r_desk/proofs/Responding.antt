@@ -11,7 +11,7 @@ use Rattle.s3r_desk.specs.Events.{Events, history_at}
 use Rattle.s3r_desk.specs.Steps.{Commit, Histories, step}
 use Rattle.s3r_desk.specs.Keeping.{Keeps, AreRead}
 use Rattle.s3r_desk.specs.Progress.{Happens}
-use Rattle.s3r_desk.specs.Responds.{AreKnown, Comes, FailsToTouch, IsDamage, Touches, Answers, Responds}
+use Rattle.s3r_desk.specs.Responds.{IsBelow, AreKnown, Comes, FailsToTouch, IsDamage, Touches, Answers, Responds}
 use Rattle.s3r_desk.proofs.Stepping.{happens_then}
 use Rattle.s3r_desk.proofs.Locations.{all_known}
 
@@ -25,11 +25,12 @@ undamaged n w room at commits reply events (Err (faults.Damaged v offset)) comes
 undamaged n w room at commits reply events (Err faults.OutOfMemory) comes = tt
 
 -- the fault is told of another type
-fails_as : (A B : Type 0) (n : ℕ) (events : Events) (e : DeskFault) → FailsToTouch {A = A} n events (Err e) → FailsToTouch {A = B} n events (Err e)
-fails_as A B n events (faults.Volume v) f = f
-fails_as A B n events (faults.Full v) f = f
-fails_as A B n events (faults.Damaged v offset) f = f
-fails_as A B n events faults.OutOfMemory f = f
+fails_as : (A B : Type 0) (among : ℕ → Type 0) (events : Events) (e : DeskFault) → FailsToTouch {A = A} among events (Err e)
+    → FailsToTouch {A = B} among events (Err e)
+fails_as A B among events (faults.Volume v) f = f
+fails_as A B among events (faults.Full v) f = f
+fails_as A B among events (faults.Damaged v offset) f = f
+fails_as A B among events faults.OutOfMemory f = f
 
 pub damage_as : (n : ℕ) (A B : Type 0) (w : Image) (e : DeskFault) → IsDamage {A = A} n w (Err e) → IsDamage {A = B} n w (Err e)
 damage_as n A B w (faults.Volume v) d = tt
@@ -48,7 +49,7 @@ module _ (before : Events) (request : Request) (room : ℕ → ℕ) (a b : List 
       rest = [];
       parts = refl;
       touches = touches.touches;
-      steps = inr (refl, fails_as (Unit {0}) Answer (length a) (touches.touched ++ before) e touches.fails);
+      steps = inr (refl, fails_as (Unit {0}) Answer (IsBelow (length a)) (touches.touched ++ before) e touches.fails);
     };
     keeps = touches.keeps;
     happens = touches.happens;
@@ -81,5 +82,5 @@ module _ (before : Events) (request : Request) (room : ℕ → ℕ) (a b : List 
         at : Histories
         at = history_at (touches.touched ++ before)
 
-        known : AreKnown (length a) (touches.touched ++ before)
-        known = subst (λ (n : ℕ). AreKnown n (touches.touched ++ before)) same (all_known (touches.touched ++ before) b mid touches.keeps read)
+        known : AreKnown (IsBelow (length a)) (touches.touched ++ before)
+        known = subst (λ (n : ℕ). AreKnown (IsBelow n) (touches.touched ++ before)) same (all_known (touches.touched ++ before) b mid touches.keeps read)

@@ -16,7 +16,7 @@ use Rattle.s3r_desk.specs.Events.{found, Events, known}
 use Rattle.s3r_desk.specs.Keeping.{IsHeld, Keeps}
 use Rattle.s3r_desk.specs.declared.fault.DeskFault.{DeskFault}
 use Rattle.s3r_desk.specs.declared.fault.DeskFault.TheVariants as faults
-use Rattle.s3r_desk.specs.Responds.{IsNext, FailsToTouch, FailsAt, Touches}
+use Rattle.s3r_desk.specs.Responds.{IsBelow, IsNext, FailsToTouch, FailsAt, Touches}
 use Rattle.s3r_desk.proofs.Places.{get_there}
 use Rattle.s3r_desk.proofs.Knowing.{known_found, found_elsewhere}
 use Rattle.s3r_desk.proofs.Stepping.{happens_none, happens_found, happens_then}
@@ -39,7 +39,7 @@ module _ (before : Events) (a b : List Store) (r : ℕ) (s s' : Store) (old mid 
   left q = left_looks q mid new looks
 
   -- the store stays as it is
-  pub touches_same : (result : Result (Unit {0}) DeskFault) → OnErr result (FailsToTouch (length a) (so_far.touched ++ before) result)
+  pub touches_same : (result : Result (Unit {0}) DeskFault) → OnErr result (FailsToTouch (IsBelow (length a)) (so_far.touched ++ before) result)
       → IsHeld s'.regions (so_far.touched ++ before) r s'.held new → Touches before result a (slice_set b r s') old new
   touches_same result fails held = record {
     touched = so_far.touched;
@@ -51,7 +51,7 @@ module _ (before : Events) (a b : List Store) (r : ℕ) (s s' : Store) (old mid 
   }
 
   -- the region's history was found
-  pub touches_found : s'.regions ≡ length a → IsNext (length a) (so_far.touched ++ before) r → (held : LoadedRegion) (h : History) → s'.held ≡ Some held
+  pub touches_found : s'.regions ≡ length a → IsNext (IsBelow (length a)) (so_far.touched ++ before) r → (held : LoadedRegion) (h : History) → s'.held ≡ Some held
       → Knows (length a) r held h new
       → Touches before (Ok tt) a (slice_set b r s') old new
   touches_found regions next held h is knows =
@@ -95,20 +95,20 @@ known_before events stores r w lt keeps read q less =
     known_some there.0.regions events q there.0.held w (keeps q there.0 there.1) (read q there.0 less there.1)
 
 -- a fault of the next region
-fails_next : (n : ℕ) (events : Events) (r : ℕ) (e : DeskFault) → FailsAt {A = Unit {0}} r (Err e) → IsNext n events r
-    → FailsToTouch {A = Unit {0}} n events (Err e)
-fails_next n events r (faults.Volume v) at next = subst (λ (m : ℕ). IsNext n events m) (sym at) next
-fails_next n events r (faults.Full v) at next = at
-fails_next n events r (faults.Damaged v offset) at next = subst (λ (m : ℕ). IsNext n events m) (sym at) next
-fails_next n events r faults.OutOfMemory at next = (r, next)
+fails_next : (among : ℕ → Type 0) (events : Events) (r : ℕ) (e : DeskFault) → FailsAt {A = Unit {0}} r (Err e) → IsNext among events r
+    → FailsToTouch {A = Unit {0}} among events (Err e)
+fails_next among events r (faults.Volume v) at next = subst (λ (m : ℕ). IsNext among events m) (sym at) next
+fails_next among events r (faults.Full v) at next = at
+fails_next among events r (faults.Damaged v offset) at next = subst (λ (m : ℕ). IsNext among events m) (sym at) next
+fails_next among events r faults.OutOfMemory at next = (r, next)
 
 module _ (before : Events) (a b : List Store) (r : ℕ) (s s' : Store) (old mid new : Outside) (lt : r < length b) (same : length b ≡ length a)
     (at : slice_get b r ≡ Some s) (looks : Looks mid new) (so_far : Touches before (Ok tt) a b old mid) where
-  next : AreReadTo b r → known (so_far.touched ++ before) r ≡ None → IsNext (length a) (so_far.touched ++ before) r
+  next : AreReadTo b r → known (so_far.touched ++ before) r ≡ None → IsNext (IsBelow (length a)) (so_far.touched ++ before) r
   next read none = record {
-    below = subst (λ (n : ℕ). r < n) same lt;
+    here = subst (λ (n : ℕ). r < n) same lt;
     unread = none;
-    others = known_before (so_far.touched ++ before) b r mid lt so_far.keeps read;
+    others = λ q below less. known_before (so_far.touched ++ before) b r mid lt so_far.keeps read q less;
   }
 
   -- it is read now
@@ -137,6 +137,6 @@ module _ (before : Events) (a b : List Store) (r : ℕ) (s s' : Store) (old mid 
       go : (o : Option LoadedRegion) → s.held ≡ o → IsHeld s.regions (so_far.touched ++ before) r o mid
           → Touches before (Err fault) a (slice_set b r s') old new
       go None e was = touches_same before a b r s s' old mid new lt same at looks so_far (Err fault)
-          (fails_next (length a) (so_far.touched ++ before) r fault fails (next read was))
+          (fails_next (IsBelow (length a)) (so_far.touched ++ before) r fault fails (next read was))
           (subst (λ (x : Option LoadedRegion). IsHeld s'.regions (so_far.touched ++ before) r x new) (sym unread) was)
       go (Some held) e was = let no : None ≡ Some held = sym unread ∙ ap (λ (x : Store). x.held) (read_before (some_is s.held held e)) ∙ e in absurd cc

@@ -21,22 +21,26 @@ use Rattle.s3r_desk.specs.Steps.{Histories, Commit, Step, step, made_of, after_c
 use Rattle.s3r_desk.specs.Keeping.{Keeps}
 use Rattle.s3r_desk.specs.Progress.{Happens}
 
--- The first region below n that isn't known.
-pub record IsNext (n : ℕ) (events : Events) (v : ℕ) : Type 0 where
-  pub below : v < n
+-- all of so many regions
+abbrev pub IsBelow : ℕ → ℕ → Type 0
+IsBelow n r = r < n
+
+-- The first region among those that a turn touches that isn't known.
+pub record IsNext (among : ℕ → Type 0) (events : Events) (v : ℕ) : Type 0 where
+  pub here : among v
   pub unread : known events v ≡ None
-  pub others : (r : ℕ) → r < v → IsSome (known events r)
+  pub others : (r : ℕ) → among r → r < v → IsSome (known events r)
 
--- regions below n that weren't known were found, in order, to have histories that have P
-abbrev pub AreTouched : (ℕ → History → Type 0) → ℕ → Events → Events → Type 0
-AreTouched P n before [] = Unit {0}
-AreTouched P n before (found r h ∷ events) = IsNext n (events ++ before) r × P r h × AreTouched P n before events
-AreTouched P n before (began r c ∷ events) = ⊥
-AreTouched P n before (answered text ∷ events) = ⊥
+-- regions among those that a turn touches weren't known, and were found, in order, to have histories that have P
+abbrev pub AreTouched : (ℕ → History → Type 0) → (ℕ → Type 0) → Events → Events → Type 0
+AreTouched P among before [] = Unit {0}
+AreTouched P among before (found r h ∷ events) = IsNext among (events ++ before) r × P r h × AreTouched P among before events
+AreTouched P among before (began r c ∷ events) = ⊥
+AreTouched P among before (answered text ∷ events) = ⊥
 
--- the history of each region below n is known
-abbrev pub AreKnown : ℕ → Events → Type 0
-AreKnown n events = (r : ℕ) → r < n → IsSome (known events r)
+-- the history of each of them is known
+abbrev pub AreKnown : (ℕ → Type 0) → Events → Type 0
+AreKnown among events = (r : ℕ) → among r → IsSome (known events r)
 
 -- A first part of the commits was made sure, and the next one wasn't.
 pub record StopsAt (room : ℕ → ℕ) (at : Histories) (commits : List Commit) (events : Events) : Type 0 where
@@ -84,12 +88,12 @@ abbrev pub Steps : ℕ → (ℕ → ℕ) → Events → Request → Events → R
 Steps n room before request events result = let at = history_at before in let s = step n at request in Comes room at s.commits s.reply events result
 
 -- a touch of the next region failed: by its volume's fault, its damage or want of memory
-abbrev pub FailsToTouch : {A : Type 0} → ℕ → Events → Result A DeskFault → Type 0
-FailsToTouch n events (Ok a) = ⊥
-FailsToTouch n events (Err (faults.Volume v)) = IsNext n events v
-FailsToTouch n events (Err (faults.Full v)) = ⊥
-FailsToTouch n events (Err (faults.Damaged v offset)) = IsNext n events v
-FailsToTouch n events (Err faults.OutOfMemory) = (v : ℕ) × IsNext n events v
+abbrev pub FailsToTouch : {A : Type 0} → (ℕ → Type 0) → Events → Result A DeskFault → Type 0
+FailsToTouch among events (Ok a) = ⊥
+FailsToTouch among events (Err (faults.Volume v)) = IsNext among events v
+FailsToTouch among events (Err (faults.Full v)) = ⊥
+FailsToTouch among events (Err (faults.Damaged v offset)) = IsNext among events v
+FailsToTouch among events (Err faults.OutOfMemory) = (v : ℕ) × IsNext among events v
 
 -- All regions are touched in order, and then the request's step is made; or a touch fails.
 pub record IsTurn (P : ℕ → History → Type 0) (n : ℕ) (room : ℕ → ℕ) (before : Events) (request : Request) (result : Result Answer DeskFault)
@@ -97,9 +101,9 @@ pub record IsTurn (P : ℕ → History → Type 0) (n : ℕ) (room : ℕ → ℕ
   pub touched : Events
   pub rest : Events
   pub parts : events ≡ rest ++ touched
-  pub touches : AreTouched P n before touched
-  pub steps : (AreKnown n (touched ++ before) × Steps n room (touched ++ before) request rest result)
-      ⊎ ((rest ≡ []) × FailsToTouch n (touched ++ before) result)
+  pub touches : AreTouched P (IsBelow n) before touched
+  pub steps : (AreKnown (IsBelow n) (touched ++ before) × Steps n room (touched ++ before) request rest result)
+      ⊎ ((rest ≡ []) × FailsToTouch (IsBelow n) (touched ++ before) result)
 
 -- what a volume's bytes stand for
 abbrev pub AsRead : ℕ → Outside → ℕ → History → Type 0
@@ -124,11 +128,11 @@ FailsAt r (Err faults.OutOfMemory) = Unit {0}
 -- The regions were touched in order, up to the first fault.
 pub record Touches (before : Events) (result : Result (Unit {0}) DeskFault) (a b : List Store) (old new : Outside) : Type 0 where
   pub touched : Events
-  pub touches : AreTouched (AsRead (length a) old) (length a) before touched
+  pub touches : AreTouched (AsRead (length a) old) (IsBelow (length a)) before touched
   pub keeps : Keeps (touched ++ before) b new
   pub looks : Looks old new
   pub happens : Happens (length a) touched old new
-  pub fails : OnErr result (FailsToTouch (length a) (touched ++ before) result)
+  pub fails : OnErr result (FailsToTouch (IsBelow (length a)) (touched ++ before) result)
 
 -- A command was committed to a region of this history, or not.
 abbrev pub CommitsOne : Events → ℕ → ℕ → History → Command → ℕ → Result Committed DeskFault → List Store → Outside → Outside → Type 0

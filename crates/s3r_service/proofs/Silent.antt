@@ -7,15 +7,15 @@ use Rattle.s3r_desk.specs.declared.request.Request.{Request}
 use Rattle.s3r_desk.specs.declared.request.Answer.{Answer}
 use Rattle.s3r_desk.specs.Events.{found, began, answered, Events, history_at}
 use Rattle.s3r_desk.specs.Steps.{Commit, Histories, made, after_commit, step}
-use Rattle.s3r_desk.specs.Responds.{AreTouched, StopsAt, Comes, IsTurn}
+use Rattle.s3r_desk.specs.Responds.{IsBelow, AreTouched, StopsAt, Comes, IsTurn}
 use Rattle.s3r_service.specs.Passing.{output_of}
 use Rattle.s3r_service.proofs.Passing.{output_then}
 
-touched_silent : (P : ℕ → History → Type 0) (n : ℕ) (before events : Events) → AreTouched P n before events → output_of events ≡ []
-touched_silent P n before [] t = refl
-touched_silent P n before (found r h ∷ events) t = touched_silent P n before events t.2
-touched_silent P n before (began r c ∷ events) t = absurd t
-touched_silent P n before (answered text ∷ events) t = absurd t
+touched_silent : (P : ℕ → History → Type 0) (among : ℕ → Type 0) (before events : Events) → AreTouched P among before events → output_of events ≡ []
+touched_silent P among before [] t = refl
+touched_silent P among before (found r h ∷ events) t = touched_silent P among before events t.2
+touched_silent P among before (began r c ∷ events) t = absurd t
+touched_silent P among before (answered text ∷ events) t = absurd t
 
 made_silent : (at : Histories) (commits : List Commit) → output_of (made at commits) ≡ []
 made_silent at [] = refl
@@ -44,7 +44,7 @@ comes_silent room at commits reply events (Err faults.OutOfMemory) comes = ⊎_e
 pub turn_silent : (P : ℕ → History → Type 0) (n : ℕ) (room : ℕ → ℕ) (before : Events) (request : Request) (result : Result Answer DeskFault) (events : Events)
     → IsTurn P n room before request result events → output_of events ≡ []
 turn_silent P n room before request result events t =
-    ap output_of t.parts ∙ output_then t.rest t.touched ∙ ap (λ (l : List ℕ). l ++ output_of t.rest) (touched_silent P n before t.touched t.touches)
+    ap output_of t.parts ∙ output_then t.rest t.touched ∙ ap (λ (l : List ℕ). l ++ output_of t.rest) (touched_silent P (IsBelow n) before t.touched t.touches)
     ∙ ⊎_elim
     (λ (known, comes). let at = history_at (t.touched ++ before) in let s = step n at request in comes_silent room at s.commits s.reply t.rest result comes)
     (λ (none, fails). ap output_of none)
