@@ -25,8 +25,9 @@ request PUT /killed '' | "$program" . 1 do >output || exit 1
 : >gets
 answered=0
 for round in $(seq 100); do
-    # A pipe of its own: what the round before has left in one isn't read.
-    rm -f input && mkfifo input || exit 1
+    # A pipe and an output of its own: what the round before has left in them isn't read. A program that is killed before it
+    # has opened its input has written no output.
+    rm -f input && mkfifo input && : >output || exit 1
     "$program" . 1 do <input >output &
     served=$!
     feed "$round" >input 2>/dev/null &
