@@ -4,5 +4,7 @@ pub mod TextExamples
 pub mod RequestExamples
 pub mod IdTexts
 pub mod LastEntry
+pub mod Pairs
+pub mod Whole
 pub mod NoFloats
 pub mod ListingExamples

@@ -27,11 +27,15 @@ create : List ℕ → Result Request Problem
 unfolding asked
 create body = request_of (asked (codes "PUT") (codes "/aaa") [] body)
 
-object : get (codes "/aaa/a%20b/c") ≡ Ok (request.GetObject (codes "aaa") (codes "a b/c") None)
+object : get (codes "/aaa/a%20b/c") ≡ Ok (request.GetObject (codes "aaa") (codes "a b/c") None false)
 unfolding get asked request_of place_of object_request read raw_pairs split percent_decode is_utf8 chars lib.Utf8.encode
 object = refl
 
-version : get (codes "/aaa//?versionId=0-000000000000001a") ≡ Ok (request.GetObject (codes "aaa") (codes "/") (Some (record { region = 0; index = 26 })))
+head : request_of (asked (codes "HEAD") (codes "/aaa/k") [] []) ≡ Ok (request.GetObject (codes "aaa") (codes "k") None true)
+unfolding asked request_of place_of object_request read raw_pairs split percent_decode is_utf8 chars lib.Utf8.encode
+head = refl
+
+version : get (codes "/aaa//?versionId=0-000000000000001a") ≡ Ok (request.GetObject (codes "aaa") (codes "/") (Some (record { region = 0; index = 26 })) false)
 unfolding get asked request_of place_of object_request read raw_pairs split percent_decode is_utf8 chars lib.Utf8.encode hex_digits
 version = refl
 

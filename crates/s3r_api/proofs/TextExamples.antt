@@ -1,12 +1,15 @@
 -- The texts of some answers.
-use Rattle.std.proofs.Common.{◌≡◌, true, false, ◌++◌, Some, None, Ok, Err, codes, refl}
+use Rattle.std.proofs.Common.{◌≡◌, ℕ, Bool, true, false, List, [], ◌++◌, Some, None, Ok, Err, codes, refl}
 use Rattle.std.specs.Fmt.{digits}
 use Rattle.serde_json.proofs.OnLiterals.{serde_json_on_literals}
 use Rattle.s3r_names.specs.Version.{hex_digits}
+use Rattle.s3r_names.specs.declared.outcome.Status.{Status}
+use Rattle.s3r_names.specs.declared.outcome.Status.TheVariants as status
 use Rattle.s3r_history.specs.declared.refusal.Refusal.TheVariants as refusal
 use Rattle.s3r_http.specs.Response.{code_text, status_line, length_line, last_line}
 use Rattle.s3r_desk.specs.declared.fault.DeskFault.TheVariants as fault
 use Rattle.s3r_desk.specs.declared.request.Answer.TheVariants as answer
+use Rattle.s3r_desk.specs.declared.request.ObjectMetadata.{ObjectMetadata}
 use Rattle.s3r_api.specs.declared.problem.Problem.TheVariants as problem
 use Rattle.s3r_api.specs.Texts.{reply_text, answer_text, problem_text}
 
@@ -20,19 +23,33 @@ cut_short : problem_text problem.CutShort false true
 unfolding reply_text status_line code_text length_line last_line digits serde_json_on_literals
 cut_short = refl
 
-object : answer_text (Ok (answer.Object (record { region = 0; index = 2 }) (codes "STANDARD") false false (codes "hi"))) false false
+abbrev version : ℕ → ℕ → List ℕ → Status → Bool → Bool → ℕ → ObjectMetadata
+version region index class status locked hold length = record {
+  id = record { region = region; index = index };
+  class = class;
+  status = status;
+  locked = locked;
+  hold = hold;
+  length = length;
+}
+
+abbrev plain : ObjectMetadata
+plain = version 0 2 (codes "STANDARD") status.NoTask false false 2
+
+object : answer_text (Ok (answer.Object plain (codes "hi"))) false false
     ≡ codes "HTTP/1.1 200 OK\r\nContent-Length: 2\r\nx-amz-version-id: 0-0000000000000002\r\n\r\nhi"
 unfolding reply_text status_line code_text length_line last_line digits hex_digits
 object = refl
 
-head : answer_text (Ok (answer.Object (record { region = 3; index = 255 }) (codes "STANDARD") false true (codes "hi"))) true false
-    ≡ codes "HTTP/1.1 200 OK\r\nContent-Length: 2\r\nx-amz-version-id: 3-00000000000000ff\r\n\r\n"
+-- HEAD tells the length of a body that isn't at hand
+head : answer_text (Ok (answer.Object (version 3 255 (codes "STANDARD") status.NoTask false true 4194304) [])) true false
+    ≡ codes "HTTP/1.1 200 OK\r\nContent-Length: 4194304\r\nx-amz-version-id: 3-00000000000000ff\r\n\r\n"
 unfolding reply_text status_line code_text length_line last_line digits hex_digits
 head = refl
 
-locked : answer_text (Ok (answer.Object (record { region = 0; index = 2 }) (codes "GLACIER") true false (codes "hi"))) false false
-    ≡ codes "HTTP/1.1 200 OK\r\nContent-Length: 2\r\nx-amz-object-lock-legal-hold: OFF\r\nx-amz-storage-class: GLACIER\r\nx-amz-version-id: "
-    ++ codes "0-0000000000000002\r\n\r\nhi"
+locked : answer_text (Ok (answer.Object (version 0 2 (codes "GLACIER") status.Pending true false 2) (codes "hi"))) false false
+    ≡ codes "HTTP/1.1 200 OK\r\nContent-Length: 2\r\nx-amz-object-lock-legal-hold: OFF\r\nx-amz-replication-status: PENDING\r\n"
+    ++ codes "x-amz-storage-class: GLACIER\r\nx-amz-version-id: 0-0000000000000002\r\n\r\nhi"
 unfolding reply_text status_line code_text length_line last_line digits hex_digits
 locked = refl
 

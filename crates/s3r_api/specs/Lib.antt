@@ -5,6 +5,7 @@ pub mod Lines
 pub mod Request
 pub mod Asking
 pub mod Ids
+pub mod Replication
 pub mod Listings
 pub mod Replies
 pub mod Texts

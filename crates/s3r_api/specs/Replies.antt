@@ -1,5 +1,5 @@
 -- What is answered: the status, the lines and the body of each answer.
-use Rattle.std.specs.Prelude.{ℕ, Bool, if◌then◌else◌, List, [], ◌∷◌, ◌++◌, Option, Some, None, Result, Ok, Err, codes, decimal}
+use Rattle.std.specs.Prelude.{ℕ, Bool, if◌then◌else◌, List, [], ◌∷◌, ◌++◌, length, Option, Some, None, Result, Ok, Err, codes, decimal}
 use Rattle.std.specs.Str.{bytes_eq}
 use Rattle.serde_json.specs.Data.{Data, Members, no_members, member, string, number, unsigned, object}
 use Rattle.serde_json.specs.Written.{compact_text}
@@ -14,17 +14,25 @@ use Rattle.s3r_desk.specs.declared.fault.DeskFault.{DeskFault}
 use Rattle.s3r_desk.specs.declared.fault.DeskFault.TheVariants as fault
 use Rattle.s3r_desk.specs.declared.request.Answer.{Answer}
 use Rattle.s3r_desk.specs.declared.request.Answer.TheVariants as answer
+use Rattle.s3r_desk.specs.declared.request.ObjectMetadata.{ObjectMetadata}
 use Rattle.s3r_json.specs.Tags.{tags_data}
 use Rattle.s3r_json.specs.Status.{status_data}
 use Rattle.s3r_api.specs.Ids.{id_text}
 use Rattle.s3r_api.specs.Listings.{listing_data}
+use Rattle.s3r_api.specs.Replication.{status_word}
 use Rattle.s3r_api.specs.declared.problem.Problem.{Problem}
 use Rattle.s3r_api.specs.declared.problem.Problem.TheVariants as problem
 
+-- An answer. The length is what HEAD tells of the body, which needn't be at hand then.
 pub record Reply : Type 0 where
   pub status : ℕ
   pub fields : List Field
   pub body : List ℕ
+  pub length : ℕ
+
+-- an answer whose body is at hand
+abbrev pub whole : ℕ → List Field → List ℕ → Reply
+whole status fields body = record { status = status; fields = fields; body = body; length = length body }
 
 abbrev pub version_field : VersionId → Field
 version_field id = record { name = codes "x-amz-version-id"; value = id_text id }
@@ -41,9 +49,17 @@ hold_field hold = record { name = codes "x-amz-object-lock-legal-hold"; value = 
 abbrev pub class_field : List ℕ → Field
 class_field class = record { name = codes "x-amz-storage-class"; value = class }
 
+abbrev pub replication_field : List ℕ → Field
+replication_field word = record { name = codes "x-amz-replication-status"; value = word }
+
 -- a hold is told under Object Lock alone
 abbrev pub hold_fields : Bool → Bool → List Field
 hold_fields locked hold = if locked then hold_field hold ∷ [] else []
+
+-- how far the replication is, where that has a word
+abbrev pub replication_fields : Option (List ℕ) → List Field
+replication_fields None = []
+replication_fields (Some word) = replication_field word ∷ []
 
 -- a class is told where it isn't the usual one
 abbrev pub class_fields : List ℕ → List Field
@@ -52,9 +68,10 @@ class_fields class = if bytes_eq class (codes "STANDARD") then [] else class_fie
 abbrev pub marker_fields : Bool → List Field
 marker_fields marker = if marker then marker_field ∷ [] else []
 
--- the lines of a version
-abbrev pub object_fields : VersionId → List ℕ → Bool → Bool → List Field
-object_fields id class locked hold = hold_fields locked hold ++ class_fields class ++ version_field id ∷ []
+-- the lines of a version, by their names
+abbrev pub object_fields : ObjectMetadata → List Field
+object_fields version = hold_fields version.locked version.hold ++ replication_fields (status_word version.status) ++ class_fields version.class
+    ++ version_field version.id ∷ []
 
 -- the lines of what is gone
 abbrev pub gone_fields : Option VersionId → Bool → List Field
@@ -66,7 +83,7 @@ json_field = record { name = codes "Content-Type"; value = codes "application/js
 
 -- a body that is JSON
 abbrev pub json_reply : ℕ → List ℕ → Reply
-json_reply status text = record { status = status; fields = json_field ∷ []; body = text }
+json_reply status text = whole status (json_field ∷ []) text
 
 -- an object with a code and these members
 abbrev pub code_data : List ℕ → Members → Data
@@ -102,6 +119,8 @@ refusal_reply refusal.LockNeeded = json_reply 400 (code_text (codes "InvalidRequ
 refusal_reply refusal.NoReplication = coded 404 (codes "ReplicationConfigurationNotFoundError")
 refusal_reply (refusal.InvalidRequest rule kind) = kind_reply rule kind
 refusal_reply (refusal.NoSuchRegion region) = coded 400 (codes "InvalidLocationConstraint")
+refusal_reply (refusal.NotNext watermark) = coded 409 (codes "NotNext")
+refusal_reply (refusal.NotFirst first) = coded 409 (codes "NotFirst")
 refusal_reply refusal.TooManyBuckets = coded 400 (codes "TooManyBuckets")
 refusal_reply refusal.NoSuchKey = coded 404 (codes "NoSuchKey")
 refusal_reply refusal.InvalidLocation = coded 400 (codes "InvalidLocationConstraint")
@@ -117,7 +136,7 @@ marked_fields id = json_field ∷ marker_field ∷ version_field id ∷ []
 
 -- a marker in place of a version
 abbrev pub marker_reply : VersionId → Bool → Reply
-marker_reply id named = record { status = marked_status named; fields = marked_fields id; body = code_text (marked_code named) no_members }
+marker_reply id named = whole (marked_status named) (marked_fields id) (code_text (marked_code named) no_members)
 
 abbrev pub versioning_word : Bool → List ℕ
 versioning_word enabled = if enabled then codes "Enabled" else codes "Suspended"
@@ -155,16 +174,20 @@ problem_reply problem.NotImplemented = coded 501 (codes "NotImplemented")
 problem_reply problem.CutShort = coded 400 (codes "CutShort")
 problem_reply problem.OutOfMemory = coded 500 (codes "OutOfMemory")
 
+-- HEAD tells the length that is said of the version, GET that of the body
+abbrev pub object_reply : ObjectMetadata → List ℕ → Reply
+object_reply version body = record { status = 200; fields = object_fields version; body = body; length = version.length }
+
 abbrev pub answer_reply : Result Answer DeskFault → Reply
-answer_reply (Ok answer.Done) = record { status = 200; fields = []; body = [] }
-answer_reply (Ok (answer.Written id)) = record { status = 200; fields = version_field id ∷ []; body = [] }
-answer_reply (Ok (answer.Gone id marker)) = record { status = 204; fields = gone_fields id marker; body = [] }
-answer_reply (Ok (answer.Object id class locked hold body)) = record { status = 200; fields = object_fields id class locked hold; body = body }
+answer_reply (Ok answer.Done) = whole 200 [] []
+answer_reply (Ok (answer.Written id)) = whole 200 (version_field id ∷ []) []
+answer_reply (Ok (answer.Gone id marker)) = whole 204 (gone_fields id marker) []
+answer_reply (Ok (answer.Object version body)) = object_reply version body
 answer_reply (Ok (answer.MarkerThere id named)) = marker_reply id named
 answer_reply (Ok (answer.TagSet tags)) = json_reply 200 (compact_text (tags_data tags))
 answer_reply (Ok (answer.Hold hold)) = status_reply (hold_word hold)
 answer_reply (Ok (answer.Versioning enabled)) = status_reply (versioning_word enabled)
 answer_reply (Ok (answer.Configuration config)) = json_reply 200 (compact_text (config_data config))
-answer_reply (Ok (answer.Listing listing)) = json_reply 200 (compact_text (listing_data listing))
+answer_reply (Ok (answer.Listing listing statuses)) = json_reply 200 (compact_text (listing_data listing statuses))
 answer_reply (Ok (answer.Refused why)) = refusal_reply why
 answer_reply (Err why) = fault_reply why

@@ -110,7 +110,7 @@ hold_request raw name key version = from_body (status_body (codes "ON") (codes "
 
 -- of a version, or of the latest where none is named
 abbrev pub version_asked : RawRequest → List ℕ → List ℕ → Option VersionId → Route → Result Request Problem
-version_asked raw name key version route.GetObject = Ok (request.GetObject name key version)
+version_asked raw name key version route.GetObject = Ok (request.GetObject name key version (is_head raw))
 version_asked raw name key version route.DeleteObject = Ok (request.DeleteObject name key version)
 version_asked raw name key version route.DeleteVersion = Ok (request.DeleteObject name key version)
 version_asked raw name key version route.PutTags = tags_request raw name key version

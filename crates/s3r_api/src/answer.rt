@@ -1,21 +1,22 @@
 //! Answers as bytes.
 
 ghost use Rattle.std.specs.Prelude.{◌≡◌, [], ◌∷◌, ◌++◌, IfOk, string_bytes};
-ghost use Rattle.s3r_http.specs.Response.{response_text};
 ghost use Rattle.s3r_api.specs.Ids.{id_text};
-ghost use Rattle.s3r_api.specs.Replies.{version_field, marker_field, hold_word, hold_field, class_field, hold_fields, class_fields, marker_fields, object_fields, gone_fields, json_field, json_reply, marked_status, marked_code, marked_fields, marker_reply};
-ghost use Rattle.s3r_api.specs.Texts.{reply_text, answer_text, problem_text, IdsAreSpelled};
+ghost use Rattle.s3r_api.specs.Replication.{status_word};
+ghost use Rattle.s3r_api.specs.Replies.{whole, version_field, marker_field, hold_word, hold_field, class_field, replication_field, hold_fields, replication_fields, class_fields, marker_fields, object_fields, gone_fields, json_field, json_reply, marked_status, marked_code, marked_fields, marker_reply, object_reply};
+ghost use Rattle.s3r_api.specs.Texts.{reply_text, answer_text, problem_text, IdsAreSpelled, HeadBegins};
 
 use crate::ids::id_bytes;
 use crate::problem::Problem;
+use crate::replication::status_word;
 use crate::replies::{
     JsonReply, code_text, config_reply, fault_reply, hold_reply, listing_reply, problem_reply,
     refusal_reply, tags_reply, versioning_reply,
 };
 use http::StatusCode;
-use s3r_desk::{Answer, DeskFault};
-use s3r_http::{Field, print_response};
-use s3r_names::{Bytes, ClassName, Text, VersionId};
+use s3r_desk::{Answer, DeskFault, ObjectMetadata};
+use s3r_http::{Field, print_head, print_response};
+use s3r_names::{Bytes, ClassName, Status, Text, VersionId};
 use std::alloc::{AllocError, Global};
 
 fn version_field(alloc: Global, id: VersionId) -> Result<Field, AllocError>
@@ -56,6 +57,14 @@ fn class_field(alloc: Global, class: &ClassName) -> Result<Field, AllocError>
     Ok(Field { name, value })
 }
 
+fn replication_field(alloc: Global, word: &str) -> Result<Field, AllocError>
+    ensures { IfOk result (λ field. field ≡ replication_field word.now) }
+{
+    let name = Text::from_str(alloc, "x-amz-replication-status")?;
+    let value = Bytes::from_slice(alloc, word.as_bytes())?;
+    Ok(Field { name, value })
+}
+
 fn json_field(alloc: Global) -> Result<Field, AllocError>
     ensures { IfOk result (λ field. field ≡ json_field) }
 {
@@ -71,6 +80,20 @@ fn hold_fields(alloc: Global, locked: bool, hold: bool) -> Result<Vec<Field>, Al
     let mut fields = Vec::new(alloc);
     if locked {
         fields.push(hold_field(alloc, hold)?)?;
+    }
+    Ok(fields)
+}
+
+/// How far the replication is, where that has a word.
+fn with_replication(
+    alloc: Global,
+    mut fields: Vec<Field>,
+    status: Status,
+) -> Result<Vec<Field>, AllocError>
+    ensures { IfOk result (λ v. v.items ≡ fields.items ++ replication_fields (status_word status)) }
+{
+    if let Some(word) = status_word(status) {
+        fields.push(replication_field(alloc, word)?)?;
     }
     Ok(fields)
 }
@@ -111,18 +134,13 @@ fn with_version(
 }
 
 /// The lines of a version.
-fn object_fields(
-    alloc: Global,
-    id: VersionId,
-    class: &ClassName,
-    locked: bool,
-    hold: bool,
-) -> Result<Vec<Field>, AllocError>
-    ensures { IfOk result (λ v. v.items ≡ object_fields id class.now locked hold) }
+fn object_fields(alloc: Global, object: &ObjectMetadata) -> Result<Vec<Field>, AllocError>
+    ensures { IfOk result (λ v. v.items ≡ object_fields object.now) }
 {
-    let fields = hold_fields(alloc, locked, hold)?;
-    let fields = with_class(alloc, fields, class)?;
-    with_version(alloc, fields, id)
+    let fields = hold_fields(alloc, object.locked, object.hold)?;
+    let fields = with_replication(alloc, fields, object.status)?;
+    let fields = with_class(alloc, fields, &object.class)?;
+    with_version(alloc, fields, object.id)
 }
 
 /// The lines of what is gone.
@@ -135,6 +153,21 @@ fn gone_fields(alloc: Global, id: Option<VersionId>, marker: bool) -> Result<Vec
     }
 }
 
+/// The answer with these lines and this body.
+#[tactic(auto, using(crate::proofs::Whole::whole_text))]
+fn whole_bytes(
+    alloc: Global,
+    status: StatusCode,
+    fields: &[Field],
+    body: &[u8],
+    head: bool,
+    last: bool,
+) -> Result<Vec<u8>, AllocError>
+    ensures { IfOk result (λ text. text.items ≡ reply_text (whole status fields.now body.now) head last) }
+{
+    print_response(alloc, status, fields, body, head, last)
+}
+
 /// The answer that a version was written.
 fn written_bytes(
     alloc: Global,
@@ -142,27 +175,45 @@ fn written_bytes(
     head: bool,
     last: bool,
 ) -> Result<Vec<u8>, AllocError>
-    ensures { IfOk result (λ text. text.items ≡ response_text 200 (version_field id ∷ []) [] head last) }
+    ensures { IfOk result (λ text. text.items ≡ reply_text (whole 200 (version_field id ∷ []) []) head last) }
 {
     let fields = [version_field(alloc, id)?];
-    print_response(alloc, StatusCode::OK, &fields, &[], head, last)
+    whole_bytes(alloc, StatusCode::OK, &fields, &[], head, last)
 }
 
-/// The answer with these lines and this body.
-fn listed_bytes(
+/// The answer that something is gone.
+fn gone_bytes(
     alloc: Global,
-    status: StatusCode,
-    fields: Vec<Field>,
-    body: &[u8],
+    id: Option<VersionId>,
+    marker: bool,
     head: bool,
     last: bool,
 ) -> Result<Vec<u8>, AllocError>
-    ensures { IfOk result (λ text. text.items ≡ response_text status fields.items body.now head last) }
+    ensures { IfOk result (λ text. text.items ≡ reply_text (whole 204 (gone_fields id marker) []) head last) }
 {
-    print_response(alloc, status, &fields, body, head, last)
+    let fields = gone_fields(alloc, id, marker)?;
+    whole_bytes(alloc, StatusCode::NO_CONTENT, &fields, &[], head, last)
 }
 
+/// The answer that shows a version. Its body isn't looked at where HEAD asked.
 #[tactic(auto, unfolding(crate::specs::Texts::reply_text))]
+fn object_bytes(
+    alloc: Global,
+    object: &ObjectMetadata,
+    body: &Bytes,
+    head: bool,
+    last: bool,
+) -> Result<Vec<u8>, AllocError>
+    ensures { IfOk result (λ text. text.items ≡ reply_text (object_reply object.now body.now) head last) }
+{
+    let fields = object_fields(alloc, object)?;
+    if head {
+        let length = object.length as usize;
+        return print_head(alloc, StatusCode::OK, &fields, length, last);
+    }
+    print_response(alloc, StatusCode::OK, &fields, body.as_slice(), false, last)
+}
+
 fn json_bytes(
     alloc: Global,
     reply: &JsonReply,
@@ -173,7 +224,7 @@ fn json_bytes(
 {
     let fields = [json_field(alloc)?];
     let body = reply.body.as_bytes();
-    print_response(alloc, reply.status, &fields, body, head, last)
+    whole_bytes(alloc, reply.status, &fields, body, head, last)
 }
 
 fn marked_status(named: bool) -> StatusCode
@@ -207,7 +258,6 @@ fn marked_fields(alloc: Global, id: VersionId) -> Result<Vec<Field>, AllocError>
 }
 
 /// The answer that a marker stands in place of a version.
-#[tactic(auto, unfolding(crate::specs::Texts::reply_text))]
 fn marker_bytes(
     alloc: Global,
     id: VersionId,
@@ -220,11 +270,10 @@ fn marker_bytes(
     let fields = marked_fields(alloc, id)?;
     let body = code_text(alloc, marked_code(named))?;
     let status = marked_status(named);
-    listed_bytes(alloc, status, fields, body.as_bytes(), head, last)
+    whole_bytes(alloc, status, &fields, body.as_bytes(), head, last)
 }
 
 /// The answer to a request that the desk was asked.
-#[tactic(auto, unfolding(crate::specs::Texts::reply_text))]
 pub fn answer_bytes(
     alloc: Global,
     answer: &Result<Answer, DeskFault>,
@@ -234,24 +283,10 @@ pub fn answer_bytes(
     ensures { IfOk result (λ text. text.items ≡ answer_text answer.now head last) }
 {
     match answer {
-        Ok(Answer::Done) => print_response(alloc, StatusCode::OK, &[], &[], head, last),
+        Ok(Answer::Done) => whole_bytes(alloc, StatusCode::OK, &[], &[], head, last),
         Ok(Answer::Written(id)) => written_bytes(alloc, *id, head, last),
-        Ok(Answer::Gone { id, marker }) => {
-            let fields = gone_fields(alloc, *id, *marker)?;
-            listed_bytes(alloc, StatusCode::NO_CONTENT, fields, &[], head, last)
-        }
-        Ok(
-            Answer::Object {
-                id,
-                class,
-                locked,
-                hold,
-                body,
-            },
-        ) => {
-            let fields = object_fields(alloc, *id, class, *locked, *hold)?;
-            listed_bytes(alloc, StatusCode::OK, fields, body.as_slice(), head, last)
-        }
+        Ok(Answer::Gone { id, marker }) => gone_bytes(alloc, *id, *marker, head, last),
+        Ok(Answer::Object { object, body }) => object_bytes(alloc, object, body, head, last),
         Ok(Answer::MarkerThere { id, named }) => marker_bytes(alloc, *id, *named, head, last),
         Ok(Answer::TagSet(tags)) => json_bytes(alloc, &tags_reply(alloc, tags)?, head, last),
         Ok(Answer::Hold(hold)) => json_bytes(alloc, &hold_reply(alloc, *hold)?, head, last),
@@ -261,8 +296,8 @@ pub fn answer_bytes(
         Ok(Answer::Configuration(config)) => {
             json_bytes(alloc, &config_reply(alloc, config)?, head, last)
         }
-        Ok(Answer::Listing(listing)) => {
-            json_bytes(alloc, &listing_reply(alloc, listing)?, head, last)
+        Ok(Answer::Listing { listing, statuses }) => {
+            json_bytes(alloc, &listing_reply(alloc, listing, statuses)?, head, last)
         }
         Ok(Answer::Refused(refusal)) => {
             json_bytes(alloc, &refusal_reply(alloc, *refusal)?, head, last)
@@ -286,4 +321,9 @@ pub fn problem_bytes(
 /// The text of a version's id is the one that ids are read by.
 pub fn ids_are_spelled()
     ensures { IdsAreSpelled }
+{}
+
+/// A version's answer to GET is the one to HEAD, and the body behind it.
+pub fn head_begins()
+    ensures { HeadBegins }
 {}

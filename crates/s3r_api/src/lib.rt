@@ -8,9 +8,10 @@ mod listings;
 mod location;
 mod page;
 mod problem;
+mod replication;
 mod replies;
 mod request;
 
-pub use answer::{answer_bytes, ids_are_spelled, problem_bytes};
+pub use answer::{answer_bytes, head_begins, ids_are_spelled, problem_bytes};
 pub use problem::{Problem, framing_problem};
 pub use request::{is_head, to_request};

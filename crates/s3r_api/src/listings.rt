@@ -1,37 +1,59 @@
 //! The text of a page of a bucket's versions.
 
 ghost use Rattle.std.specs.Prelude.{◌≡◌, not, IfOk, option_copied, string_bytes, map, filter};
-ghost use Rattle.serde_json.specs.View.{view};
+ghost use Rattle.std.specs.List.{zip};
+ghost use Rattle.serde_json.specs.Data.{array};
+ghost use Rattle.serde_json.specs.View.{view, items_of};
 ghost use Rattle.serde_json.specs.Written.{compact_text};
-ghost use Rattle.s3r_api.specs.Listings.{marker_data, version_data, cut_after, listing_data};
+ghost use Rattle.s3r_api.specs.Listings.{marker_data, version_data, cut_after, page_data, listing_data};
 
 use crate::ids::id_text;
-use s3r_desk::{Listed, Listing};
+use crate::replication::status_word;
+use s3r_desk::{Listed, Listing, Statuses};
+use s3r_names::Status;
 use serde_json::{Value, json};
 use std::alloc::{AllocError, Global};
 
-fn marker_value(alloc: Global, entry: &Listed) -> Result<Value, AllocError>
-    ensures { IfOk result (λ value. view value ≡ marker_data entry.now) }
+fn marker_value(alloc: Global, entry: &Listed, status: Status) -> Result<Value, AllocError>
+    ensures { IfOk result (λ value. view value ≡ marker_data (entry.now, status)) }
 {
     let id = id_text(alloc, entry.id)?;
-    json!(in alloc; {
-        "IsLatest": entry.latest,
-        "Key": entry.key.as_str(),
-        "VersionId": id.as_str()
-    })
+    match status_word(status) {
+        Some(word) => json!(in alloc; {
+            "IsLatest": entry.latest,
+            "Key": entry.key.as_str(),
+            "ReplicationStatus": word,
+            "VersionId": id.as_str()
+        }),
+        None => json!(in alloc; {
+            "IsLatest": entry.latest,
+            "Key": entry.key.as_str(),
+            "VersionId": id.as_str()
+        }),
+    }
 }
 
-fn version_value(alloc: Global, entry: &Listed) -> Result<Value, AllocError>
-    ensures { IfOk result (λ value. view value ≡ version_data entry.now) }
+fn version_value(alloc: Global, entry: &Listed, status: Status) -> Result<Value, AllocError>
+    ensures { IfOk result (λ value. view value ≡ version_data (entry.now, status)) }
 {
     let id = id_text(alloc, entry.id)?;
-    json!(in alloc; {
-        "IsLatest": entry.latest,
-        "Key": entry.key.as_str(),
-        "Size": entry.length,
-        "StorageClass": entry.class.as_str(),
-        "VersionId": id.as_str()
-    })
+    match status_word(status) {
+        Some(word) => json!(in alloc; {
+            "IsLatest": entry.latest,
+            "Key": entry.key.as_str(),
+            "ReplicationStatus": word,
+            "Size": entry.length,
+            "StorageClass": entry.class.as_str(),
+            "VersionId": id.as_str()
+        }),
+        None => json!(in alloc; {
+            "IsLatest": entry.latest,
+            "Key": entry.key.as_str(),
+            "Size": entry.length,
+            "StorageClass": entry.class.as_str(),
+            "VersionId": id.as_str()
+        }),
+    }
 }
 
 /// Entries as JSON, each kind in order.
@@ -41,17 +63,24 @@ struct EntryValues {
     versions: Vec<Value>,
 }
 
-fn entry_values(alloc: Global, entries: &[Listed]) -> Result<EntryValues, AllocError>
-    ensures markers { IfOk result (λ values. map view values.markers.items ≡ map marker_data (filter (λ entry. entry.marker) entries.now)) }
-    ensures versions { IfOk result (λ values. map view values.versions.items ≡ map version_data (filter (λ entry. not entry.marker) entries.now)) }
+/// Each entry with its status.
+fn entry_values(
+    alloc: Global,
+    entries: &[Listed],
+    statuses: &[Status],
+) -> Result<EntryValues, AllocError>
+    ensures markers { IfOk result (λ values. map view values.markers.items ≡ map marker_data
+        (filter (λ shown. shown.0.marker) (zip entries.now statuses.now))) }
+    ensures versions { IfOk result (λ values. map view values.versions.items ≡ map version_data
+        (filter (λ shown. not shown.0.marker) (zip entries.now statuses.now))) }
 {
     let mut markers = Vec::new(alloc);
     let mut versions = Vec::new(alloc);
-    for entry in entries {
+    for (entry, status) in entries.iter().zip(statuses) {
         if entry.marker {
-            markers.push(marker_value(alloc, entry)?)?;
+            markers.push(marker_value(alloc, entry, *status)?)?;
         } else {
-            versions.push(version_value(alloc, entry)?)?;
+            versions.push(version_value(alloc, entry, *status)?)?;
         }
     }
     Ok(EntryValues { markers, versions })
@@ -68,10 +97,16 @@ fn cut_after(listing: &Listing) -> Option<&Listed>
     }
 }
 
-fn listing_value(alloc: Global, listing: &Listing) -> Result<Value, AllocError>
-    ensures { IfOk result (λ value. view value ≡ listing_data listing.now) }
+/// A page with these markers and these versions.
+fn page_value(
+    alloc: Global,
+    markers: Vec<Value>,
+    versions: Vec<Value>,
+    listing: &Listing,
+) -> Result<Value, AllocError>
+    ensures { IfOk result (λ value. view value ≡ page_data (array (items_of (map view markers.items)))
+        (array (items_of (map view versions.items))) listing.now) }
 {
-    let EntryValues { markers, versions } = entry_values(alloc, listing.entries.as_slice())?;
     match cut_after(listing) {
         Some(entry) => {
             let id = id_text(alloc, entry.id)?;
@@ -91,9 +126,22 @@ fn listing_value(alloc: Global, listing: &Listing) -> Result<Value, AllocError>
     }
 }
 
-/// The compact JSON text of a page: its delete markers, its versions and, where it is truncated, its last entry.
-pub fn listing_text(alloc: Global, listing: &Listing) -> Result<String, AllocError>
-    ensures { IfOk result (λ text. string_bytes text ≡ compact_text (listing_data listing.now)) }
+fn listing_value(alloc: Global, listing: &Listing, statuses: &Statuses) -> Result<Value, AllocError>
+    ensures { IfOk result (λ value. view value ≡ listing_data listing.now statuses.now) }
 {
-    listing_value(alloc, listing)?.to_string(alloc)
+    let entries = listing.entries.as_slice();
+    let EntryValues { markers, versions } = entry_values(alloc, entries, statuses.as_slice())?;
+    page_value(alloc, markers, versions, listing)
+}
+
+/// The compact JSON text of a page: its delete markers, its versions and, where it is truncated, its last entry. Each
+/// has the status that stands at its place.
+pub fn listing_text(
+    alloc: Global,
+    listing: &Listing,
+    statuses: &Statuses,
+) -> Result<String, AllocError>
+    ensures { IfOk result (λ text. string_bytes text ≡ compact_text (listing_data listing.now statuses.now)) }
+{
+    listing_value(alloc, listing, statuses)?.to_string(alloc)
 }

@@ -12,7 +12,7 @@ ghost use Rattle.s3r_api.specs.Replies.{json_reply, status_reply, hold_word, ver
 use crate::listings::listing_text;
 use crate::problem::Problem;
 use http::StatusCode;
-use s3r_desk::{DeskFault, Listing, Refusal};
+use s3r_desk::{DeskFault, Listing, Refusal, Statuses};
 use s3r_json::{status_text, tags_text};
 use s3r_names::TagSet;
 use s3r_rules::{Config, Kind};
@@ -119,10 +119,12 @@ pub fn refusal_reply(alloc: Global, refusal: Refusal) -> Result<JsonReply, Alloc
             "ReplicationConfigurationNotFoundError",
         ),
         Refusal::InvalidRequest { rule, kind } => kind_reply(alloc, rule, kind),
-        // (no desk answers this one)
+        // (no desk answers this one, nor the next two)
         Refusal::NoSuchRegion { .. } => {
             coded(alloc, StatusCode::BAD_REQUEST, "InvalidLocationConstraint")
         }
+        Refusal::NotNext { .. } => coded(alloc, StatusCode::CONFLICT, "NotNext"),
+        Refusal::NotFirst { .. } => coded(alloc, StatusCode::CONFLICT, "NotFirst"),
         Refusal::TooManyBuckets => coded(alloc, StatusCode::BAD_REQUEST, "TooManyBuckets"),
         Refusal::NoSuchKey => coded(alloc, StatusCode::NOT_FOUND, "NoSuchKey"),
         Refusal::InvalidLocation => {
@@ -178,12 +180,18 @@ pub fn versioning_reply(alloc: Global, enabled: bool) -> Result<JsonReply, Alloc
     }
 }
 
-pub fn listing_reply(alloc: Global, listing: &Listing) -> Result<JsonReply, AllocError>
-    ensures { IfOk result (λ reply. json_reply reply.status (string_bytes reply.body) ≡ json_reply 200 (compact_text (listing_data listing.now))) }
+/// A page, and the statuses of its entries in order.
+pub fn listing_reply(
+    alloc: Global,
+    listing: &Listing,
+    statuses: &Statuses,
+) -> Result<JsonReply, AllocError>
+    ensures { IfOk result (λ reply. json_reply reply.status (string_bytes reply.body) ≡ json_reply 200
+        (compact_text (listing_data listing.now statuses.now))) }
 {
     Ok(JsonReply {
         status: StatusCode::OK,
-        body: listing_text(alloc, listing)?,
+        body: listing_text(alloc, listing, statuses)?,
     })
 }
 

@@ -217,6 +217,7 @@ fn version_asked(
             bucket,
             key,
             version,
+            head: is_head(raw),
         }),
         Route::DeleteObject | Route::DeleteVersion => Ok(Request::DeleteObject {
             bucket,

@@ -1,5 +1,6 @@
 -- A cause, told by a caller.
 use Rattle.std.proofs.Common.{ℕ, ◌≤◌, Err, arith}
+use Rattle.s3r_world.specs.declared.world.Side.TheVariants as side
 use Rattle.s3r_world.specs.Outside.{Counts, NoneFalls}
 use Rattle.s3r_world.specs.Moments.{rises_after}
 use Rattle.s3r_desk.specs.declared.fault.DeskFault.{DeskFault}
@@ -10,7 +11,7 @@ pub cause_wider : (A B : Type 0) (m n : ℕ) (e : DeskFault) (a b d : Counts) �
     → HasCause {A = B} n (Err e) a d
 cause_wider A B m n (faults.Volume v) a b d le falls cause = (
   omega (arith, le, cause.0),
-  rises_after 1 (a.volume v) (b.volume v) (d.volume v) (falls.volume v) cause.1,
+  rises_after 1 (side.Volume v) a b d falls cause.1,
 )
 cause_wider A B m n (faults.Full v) a b d le falls cause = omega (arith, le, cause)
 cause_wider A B m n (faults.Damaged v offset) a b d le falls cause = omega (arith, le, cause)

@@ -1,7 +1,8 @@
--- No refusal of a region that isn't there leaves the desk.
+-- No refusal of a region that isn't there, or of a task, leaves the desk.
 use Rattle.std.proofs.Common.{◌≡◌, ℕ, zero, suc, ◌+◌, ◌<◌, Bool, true, false, cond, nat_lt, List, [], ◌∷◌, length, Option, Some, None, is_some, Ok, Err, refl, ap, ◌∙◌, arith}
 use Rattle.std.specs.List.{list_all}
 use Rattle.std.proofs.lemmas.Bool.{and_parts, lt-leb}
+use Rattle.s3r_names.specs.declared.outcome.Status.{Status}
 use Rattle.s3r_names.specs.declared.version.VersionId.{VersionId}
 use Rattle.s3r_rules.specs.declared.rule.Rule.{Rule}
 use Rattle.s3r_rules.specs.declared.fault.Kind.{Kind}
@@ -13,19 +14,19 @@ use Rattle.s3r_history.specs.declared.refusal.Refusal.{Refusal}
 use Rattle.s3r_history.specs.declared.refusal.Refusal.TheVariants as refusals
 use Rattle.s3r_history.specs.declared.replication.Replication.{Replication}
 use Rattle.s3r_history.specs.Words.{Name}
-use Rattle.s3r_history.specs.Buckets.{names}
 use Rattle.s3r_history.specs.Past.{Entry}
-use Rattle.s3r_history.specs.BucketView.{BucketView, told}
+use Rattle.s3r_history.specs.BucketView.{BucketView}
+use Rattle.s3r_history.specs.RegionView.{RegionView, view}
 use Rattle.s3r_history.specs.Accepts.{Cause, first_of_causes, in_bucket, in_version, of_deletion, of_switch, of_put, of_marker, of_removal, of_tags, of_a_marker, under_hold, beyond, unless_beyond, of_configuration, of_dropping, causes, refusal}
 use Rattle.s3r_desk.specs.declared.request.Request.{Request}
 use Rattle.s3r_desk.specs.declared.request.Request.TheVariants as request
 use Rattle.s3r_desk.specs.declared.request.Answer.{Answer}
 use Rattle.s3r_desk.specs.declared.request.Answer.TheVariants as answer
 use Rattle.s3r_desk.specs.declared.planning.Plan.{Plan}
-use Rattle.s3r_desk.specs.declared.planning.Plan.TheVariants.{Shows, Commits}
+use Rattle.s3r_desk.specs.declared.planning.Plan.TheVariants.{Shows, Fetches, Commits}
 use Rattle.s3r_desk.specs.declared.planning.Reply.{Reply}
 use Rattle.s3r_desk.specs.declared.planning.Reply.TheVariants.{Is, Written, Marked}
-use Rattle.s3r_desk.specs.Steps.{Histories, Views, BucketLocation, refuses, at_location, missing, hidden, sought, object_of, with_object, if_locked, creation, shown, removal, deletion, tags_reply, location, or_wrong, wrong_rule, first_wrong, not_taken, region_of, regions_of, unless_refused, replication, configuration, dropping, plan, commits_at, commits_unless, reply_at, made_of, views, step}
+use Rattle.s3r_desk.specs.Steps.{Histories, Views, VersionStatuses, BucketLocation, status_or_none, metadata_of, version_shown, refuses, at_location, missing, hidden, sought, object_of, with_object, if_locked, creation, shown, removal, deletion, tags_reply, location, or_wrong, wrong_rule, first_wrong, not_taken, region_of, regions_of, unless_refused, replication, configuration, dropping, plan, commits_at, commits_unless, reply_at, made_of, views, statuses, step}
 use Rattle.s3r_desk.specs.Laws.{is_told, may_leave}
 use Rattle.s3r_desk.proofs.PlacedRules.{below}
 
@@ -57,25 +58,39 @@ in-version : (more : Entry → List Cause) → ((row : Entry) → all_told (more
 in-version more all None = refl
 in-version more all (Some row) = all row
 
--- the regions that a command names are there
-abbrev AreThere : ℕ → Command → Type 0
-AreThere n (command.SetReplication name config regions) = beyond n regions ≡ None
-AreThere n other = Unit {0}
+-- a request may ask for the command: the regions that it names are there, and it is about no task
+abbrev pub MayBeAsked : ℕ → Command → Type 0
+MayBeAsked n (command.CreateBucket name locked) = Unit {0}
+MayBeAsked n (command.DeleteBucket name) = Unit {0}
+MayBeAsked n (command.SetVersioning name enabled) = Unit {0}
+MayBeAsked n (command.SetReplication name config regions) = beyond n regions ≡ None
+MayBeAsked n (command.DropReplication name) = Unit {0}
+MayBeAsked n (command.Put b key tags hold class body) = Unit {0}
+MayBeAsked n (command.Marker b key) = Unit {0}
+MayBeAsked n (command.Remove b key id) = Unit {0}
+MayBeAsked n (command.SetTags b key id tags) = Unit {0}
+MayBeAsked n (command.SetHold b key id hold) = Unit {0}
+MayBeAsked n (command.Receive from number effect) = ⊥
+MayBeAsked n (command.Settle to number outcome) = ⊥
+MayBeAsked n (command.Attempt to number) = ⊥
 
-causes-told : (n : ℕ) (at : Name → Option BucketView) (count : ℕ) (c : Command) → AreThere n c → all_told (causes n at count c) ≡ true
-causes-told n at count (command.CreateBucket name locked) there = refl
-causes-told n at count (command.DeleteBucket name) there = in-bucket of_deletion (λ t. refl) (at name)
-causes-told n at count (command.SetVersioning name enabled) there = in-bucket (of_switch enabled) (λ t. refl) (at name)
-causes-told n at count (command.SetReplication name config regions) there =
-    ap (λ o. all_told (unless_beyond (in_bucket of_configuration (at name)) o)) there ∙ in-bucket of_configuration (λ t. refl) (at name)
-causes-told n at count (command.DropReplication name) there = in-bucket of_dropping (λ t. refl) (at name)
-causes-told n at count (command.Put b key tags hold class body) there = in-bucket (of_put hold) (λ t. refl) (at b)
-causes-told n at count (command.Marker b key) there = in-bucket of_marker (λ t. refl) (at b)
-causes-told n at count (command.Remove b key id) there = in-bucket (of_removal key id) (λ t. in-version under_hold (λ row. refl) (find_version key id t.rows))
-    (at b)
-causes-told n at count (command.SetTags b key id tags) there = in-bucket (of_tags key id)
-    (λ t. in-version of_a_marker (λ row. refl) (find_version key id t.rows)) (at b)
-causes-told n at count (command.SetHold b key id hold) there = in-bucket _ (λ t. in-version of_a_marker (λ row. refl) (find_version key id t.rows)) (at b)
+causes-told : (n : ℕ) (v : RegionView) (c : Command) → MayBeAsked n c → all_told (causes n v c) ≡ true
+causes-told n v (command.CreateBucket name locked) asked = refl
+causes-told n v (command.DeleteBucket name) asked = in-bucket of_deletion (λ t. refl) (v.bucket name)
+causes-told n v (command.SetVersioning name enabled) asked = in-bucket (of_switch enabled) (λ t. refl) (v.bucket name)
+causes-told n v (command.SetReplication name config regions) asked =
+    ap (λ o. all_told (unless_beyond (in_bucket of_configuration (v.bucket name)) o)) asked ∙ in-bucket of_configuration (λ t. refl) (v.bucket name)
+causes-told n v (command.DropReplication name) asked = in-bucket of_dropping (λ t. refl) (v.bucket name)
+causes-told n v (command.Put b key tags hold class body) asked = in-bucket (of_put hold) (λ t. refl) (v.bucket b)
+causes-told n v (command.Marker b key) asked = in-bucket of_marker (λ t. refl) (v.bucket b)
+causes-told n v (command.Remove b key id) asked = in-bucket (of_removal key id) (λ t. in-version under_hold (λ row. refl) (find_version key id t.rows))
+    (v.bucket b)
+causes-told n v (command.SetTags b key id tags) asked = in-bucket (of_tags key id)
+    (λ t. in-version of_a_marker (λ row. refl) (find_version key id t.rows)) (v.bucket b)
+causes-told n v (command.SetHold b key id hold) asked = in-bucket _ (λ t. in-version of_a_marker (λ row. refl) (find_version key id t.rows)) (v.bucket b)
+causes-told n v (command.Receive from number effect) asked = absurd asked
+causes-told n v (command.Settle to number outcome) asked = absurd asked
+causes-told n v (command.Attempt to number) asked = absurd asked
 
 -- ---- what a plan comes to
 
@@ -84,9 +99,10 @@ settles (Is reply) = may_leave reply
 settles Written = true
 settles Marked = true
 
-abbrev Leaves : ℕ → Plan → Type 0
+abbrev pub Leaves : ℕ → Plan → Type 0
 Leaves n (Shows reply) = may_leave reply ≡ true
-Leaves n (Commits r c reply) = AreThere n c × (settles reply ≡ true)
+Leaves n (Fetches r object body) = Unit {0}
+Leaves n (Commits r c reply) = MayBeAsked n c × (settles reply ≡ true)
 
 reply-leaves : (r index : ℕ) (reply : Reply) → settles reply ≡ true → may_leave (reply_at r index reply) ≡ true
 reply-leaves r index (Is reply) settled = settled
@@ -95,9 +111,9 @@ reply-leaves r index Marked settled = refl
 
 made-leaves : (n : ℕ) (at : Histories) (p : Plan) → Leaves n p → may_leave (made_of n at p).reply ≡ true
 made-leaves n at (Shows reply) leaves = leaves
+made-leaves n at (Fetches r object body) leaves = refl
 made-leaves n at (Commits r c reply) leaves =
-    go (refusal n r (at r) c) (first-told (causes n (told r (at r)) (length (names (at r))) c)
-    (causes-told n (told r (at r)) (length (names (at r))) c leaves.0))
+    go (refusal n r (at r) c) (first-told (causes n (view r (at r)) c) (causes-told n (view r (at r)) c leaves.0))
   where
     go : (o : Option Refusal) → told_of o ≡ true → may_leave (commits_unless o (record { region = r; command = c })
         (reply_at r (length (at r) + 1) reply)).reply ≡ true
@@ -137,13 +153,16 @@ with-object n p leaves version (Some row) = go row.marker
     go true = hidden-told version
     go false = leaves row
 
-shown-leaves : (n : ℕ) (version : Option VersionId) (locked : Bool) (o : Option Entry) → Leaves n (shown version locked o)
-shown-leaves n version locked None = missing-told version
-shown-leaves n version locked (Some row) = go row.marker
+shown-leaves : (n : ℕ) (statuses : VersionId → Option Status) (version : Option VersionId) (head : Bool) (h : BucketLocation) (o : Option Entry)
+    → Leaves n (shown statuses version head h o)
+shown-leaves n statuses version head h None = missing-told version
+shown-leaves n statuses version head h (Some row) = go row.marker head
   where
-    go : (b : Bool) → Leaves n (cond b (Shows (answer.MarkerThere row.id (is_some version))) (Shows (answer.Object row.id row.class locked row.hold row.body)))
-    go true = refl
-    go false = refl
+    go : (b t : Bool) → Leaves n (cond b (Shows (answer.MarkerThere row.id (is_some version)))
+        (version_shown h.region t (metadata_of h.told.locked (status_or_none (statuses row.id)) row) row))
+    go true t = refl
+    go false true = refl
+    go false false = tt
 
 page-leaves : (n : ℕ) (b : Bool) (reply : Answer) → may_leave reply ≡ true → Leaves n (cond b (Shows reply) (refuses refusals.NoSuchVersion))
 page-leaves n true reply settled = settled
@@ -214,31 +233,32 @@ dropping-leaves : (n : ℕ) (b : Name) (h : BucketLocation) (o : Option Replicat
 dropping-leaves n b h None = refl
 dropping-leaves n b h (Some r) = (tt, refl)
 
-plan-leaves : (n : ℕ) (v : Views) (q : Request) → Leaves n (plan n v q)
-plan-leaves n v (request.CreateBucket name region locked) = creation-leaves n name locked (location n v name) region
-plan-leaves n v (request.HeadBucket name) = at-location n _ (λ h. refl) (location n v name)
-plan-leaves n v (request.DeleteBucket name) = at-location n _ (λ h. (tt, refl)) (location n v name)
-plan-leaves n v (request.PutVersioning name enabled) = at-location n _ (λ h. (tt, refl)) (location n v name)
-plan-leaves n v (request.GetVersioning name) = at-location n _ (λ h. refl) (location n v name)
-plan-leaves n v (request.PutReplication name config) = replication-leaves n v name config
-plan-leaves n v (request.GetReplication name) = at-location n _ (λ h. configuration-leaves n h.told.config) (location n v name)
-plan-leaves n v (request.DeleteReplication name) = at-location n _ (λ h. dropping-leaves n name h h.told.config) (location n v name)
-plan-leaves n v (request.ListVersions name prefix after limit) = at-location n _ (λ h. page-leaves n (is_place_there after h.told.rows) _ refl)
+pub plan-leaves : (n : ℕ) (v : Views) (s : VersionStatuses) (q : Request) → Leaves n (plan n v s q)
+plan-leaves n v s (request.CreateBucket name region locked) = creation-leaves n name locked (location n v name) region
+plan-leaves n v s (request.HeadBucket name) = at-location n _ (λ h. refl) (location n v name)
+plan-leaves n v s (request.DeleteBucket name) = at-location n _ (λ h. (tt, refl)) (location n v name)
+plan-leaves n v s (request.PutVersioning name enabled) = at-location n _ (λ h. (tt, refl)) (location n v name)
+plan-leaves n v s (request.GetVersioning name) = at-location n _ (λ h. refl) (location n v name)
+plan-leaves n v s (request.PutReplication name config) = replication-leaves n v name config
+plan-leaves n v s (request.GetReplication name) = at-location n _ (λ h. configuration-leaves n h.told.config) (location n v name)
+plan-leaves n v s (request.DeleteReplication name) = at-location n _ (λ h. dropping-leaves n name h h.told.config) (location n v name)
+plan-leaves n v s (request.ListVersions name prefix after limit) = at-location n _ (λ h. page-leaves n (is_place_there after h.told.rows) _ refl)
     (location n v name)
-plan-leaves n v (request.PutObject b key body tags hold class) = at-location n _ (λ h. (tt, refl)) (location n v b)
-plan-leaves n v (request.GetObject b key version) = at-location n _ (λ h. shown-leaves n version h.told.locked (sought key version h.told)) (location n v b)
-plan-leaves n v (request.DeleteObject b key version) = at-location n _ (λ h. deletion-leaves n b key version h) (location n v b)
-plan-leaves n v (request.PutTags b key version tags gone) =
+plan-leaves n v s (request.PutObject b key body tags hold class) = at-location n _ (λ h. (tt, refl)) (location n v b)
+plan-leaves n v s (request.GetObject b key version head) =
+    at-location n _ (λ h. shown-leaves n (s h.region b key) version head h (sought key version h.told)) (location n v b)
+plan-leaves n v s (request.DeleteObject b key version) = at-location n _ (λ h. deletion-leaves n b key version h) (location n v b)
+plan-leaves n v s (request.PutTags b key version tags gone) =
     at-location n _ (λ h. with-object n (λ row. commits_at h (command.SetTags b key row.id tags) (tags_reply gone row.id))
     (λ row. (tt, tags-settle gone row.id)) version (sought key version h.told)) (location n v b)
-plan-leaves n v (request.GetTags b key version) = at-location n _ (λ h. with-object n (λ row. Shows (answer.TagSet row.tags)) (λ row. refl) version
+plan-leaves n v s (request.GetTags b key version) = at-location n _ (λ h. with-object n (λ row. Shows (answer.TagSet row.tags)) (λ row. refl) version
     (sought key version h.told)) (location n v b)
-plan-leaves n v (request.PutHold b key version hold) =
+plan-leaves n v s (request.PutHold b key version hold) =
     at-location n _ (λ h. if-locked n h _ (with-object n (λ row. commits_at h (command.SetHold b key row.id hold) (Is (answer.Written row.id)))
     (λ row. (tt, refl)) version (sought key version h.told))) (location n v b)
-plan-leaves n v (request.GetHold b key version) =
+plan-leaves n v s (request.GetHold b key version) =
     at-location n _ (λ h. if-locked n h _ (with-object n (λ row. Shows (answer.Hold row.hold)) (λ row. refl) version (sought key version h.told)))
     (location n v b)
 
 pub all_leave : (n : ℕ) (at : Histories) (q : Request) → may_leave (step n at q).reply ≡ true
-all_leave n at q = made-leaves n at (plan n (views at) q) (plan-leaves n (views at) q)
+all_leave n at q = made-leaves n at (plan n (views at) (statuses at) q) (plan-leaves n (views at) (statuses at) q)

@@ -12,3 +12,6 @@ mod Responding
 pub mod Ids
 pub mod PlacedRules
 pub mod Leaving
+pub mod Careful
+pub mod Agreeing
+pub mod Licensed

@@ -1,14 +1,21 @@
 -- What read stores tell, by the histories of their regions.
-use Rattle.std.proofs.Common.{◌≡◌, ℕ, zero, suc, ◌+◌, ◌-◌, ◌<◌, cond, bytes_eq, List, [], ◌∷◌, length, Option, Some, None, IsSome, unwrap_or, refl, sym, ◌∙◌, ap, subst, arith}
+use Rattle.std.proofs.Common.{◌≡◌, ℕ, zero, suc, ◌+◌, ◌-◌, ◌<◌, cond, bytes_eq, List, [], ◌∷◌, length, Option, Some, None, IsSome, IfSome, true, false, unwrap_or, refl, sym, ◌∙◌, ap, subst, arith}
 use Rattle.std.specs.Prelude.{slice_get}
 use Rattle.std.specs.Option.{option_map, option_and_then}
 use Rattle.s3r_world.specs.Outside.{Outside}
 use Rattle.s3r_rules.specs.declared.rule.Rule.{Rule}
 use Rattle.s3r_rules.specs.declared.fault.Kind.TheVariants as kind
 use Rattle.s3r_record.specs.declared.command.Command.TheVariants as command
+use Rattle.s3r_names.specs.declared.outcome.Status.{Status}
+use Rattle.s3r_names.specs.declared.version.VersionId.{VersionId}
 use Rattle.s3r_history.specs.declared.refusal.Refusal.TheVariants as refusals
 use Rattle.s3r_history.specs.Words.{Name, History}
-use Rattle.s3r_history.specs.BucketView.{told}
+use Rattle.s3r_history.specs.Past.{Entry}
+use Rattle.s3r_history.specs.BucketView.{BucketView}
+use Rattle.s3r_versions.specs.declared.listing.ListPosition.{ListPosition}
+use Rattle.s3r_versions.specs.Listing.{is_place_there, listing}
+use Rattle.s3r_history.specs.RegionView.{view}
+use Rattle.s3r_history.specs.Told.{told}
 use Rattle.s3r_region.specs.Contents.{Contents}
 use Rattle.s3r_region.specs.After.{seen, seen_bucket, told_by}
 use Rattle.s3r_store.specs.declared.loaded_region.LoadedRegion.{LoadedRegion}
@@ -19,12 +26,16 @@ use Rattle.s3r_desk.specs.declared.request.Request.{Request}
 use Rattle.s3r_desk.specs.declared.request.Request.TheVariants as request
 use Rattle.s3r_desk.specs.declared.request.Answer.TheVariants as answer
 use Rattle.s3r_desk.specs.declared.planning.Plan.{Plan}
-use Rattle.s3r_desk.specs.declared.planning.Plan.TheVariants.{Commits}
+use Rattle.s3r_desk.specs.declared.planning.Plan.TheVariants.{Shows, Commits}
 use Rattle.s3r_desk.specs.declared.planning.Reply.TheVariants.{Is}
 use Rattle.s3r_desk.specs.Events.{Events, known, history_at}
 use Rattle.s3r_desk.specs.Keeping.{IsHeld, Keeps, AreRead}
-use Rattle.s3r_desk.specs.Lookups.{bucket_in, told_in, views_of}
-use Rattle.s3r_desk.specs.Steps.{BucketLocation, Views, or_location, location_from, location, at_location, or_wrong, kind_there, wrong_rule, first_wrong, not_taken, region_of, regions_of, unless_refused, replication, plan, views, made_of, step}
+use Rattle.s3r_region.specs.View.{seen_status}
+use Rattle.s3r_region.proofs.Views.{status-is}
+use Rattle.s3r_versions.specs.declared.listing.Listed.{Listed}
+use Rattle.s3r_desk.specs.Lookups.{bucket_in, told_in, views_of, status_in, statuses_of}
+use Rattle.s3r_desk.specs.Steps as asked
+use Rattle.s3r_desk.specs.Steps.{BucketLocation, Views, VersionStatuses, refuses, sought, status_or_none, listed, page, object_shown, shown, object_asked, statuses, or_location, location_from, location, at_location, or_wrong, kind_there, wrong_rule, first_wrong, not_taken, region_of, regions_of, unless_refused, replication, plan, views, made_of, step}
 use Rattle.s3r_desk.specs.Responds.{IsBelow, AreKnown}
 
 -- ---- one store
@@ -59,6 +70,23 @@ module _ (events : Events) (stores : List Store) (w : Outside) (keeps : Keeps ev
       go None e = absurd (none_within stores r lt e)
       go (Some s) e = told_is b r s e
 
+  status_is : (b key : Name) (id : VersionId) (r : ℕ) (s : Store) → slice_get stores r ≡ Some s
+      → status_in b key id s ≡ (view r (history_at events r)).status b key id
+  status_is b key id r s get =
+      let at = known_at r s get in
+      ap (λ (o : Option LoadedRegion). option_and_then (λ (state : Contents). seen_status state b key id) (option_map (λ
+      (held : LoadedRegion). held.state) o)) at.1
+      ∙ status-is at.0.state (history_at events r) at.2.after b key id
+      ∙ ap (λ (m : ℕ). (view m (history_at events r)).status b key id) at.2.region
+
+  -- and so it is of versions
+  pub statuses_are : (b key : Name) (id : VersionId) (r : ℕ) → r < length stores → statuses_of stores r b key id ≡ statuses (history_at events) r b key id
+  statuses_are b key id r lt = go (slice_get stores r) refl
+    where
+      go : (o : Option Store) → slice_get stores r ≡ o → option_and_then (status_in b key id) o ≡ (view r (history_at events r)).status b key id
+      go None e = absurd (none_within stores r lt e)
+      go (Some s) e = status_is b key id r s e
+
 -- ---- one plan
 
 home_from_same : (r n m : ℕ) (v u : Views) (b : Name) → r + n ≡ m → ((q : ℕ) → q < m → v q b ≡ u q b) → location_from r n v b ≡ location_from r n u b
@@ -73,6 +101,44 @@ home_same n v u b same = home_from_same 0 n n v u b (omega arith) same
 at_home_same : (p q : BucketLocation → Plan) → ((h : BucketLocation) → p h ≡ q h) → (o : Option BucketLocation) → at_location p o ≡ at_location q o
 at_home_same p q same None = refl
 at_home_same p q same (Some h) = same h
+
+-- a bucket's region is one of so many
+home_from_within : (r n m : ℕ) (v : Views) (b : Name) → r + n ≡ m → IfSome (location_from r n v b) (λ h. h.region < m)
+home_from_within r zero m v b all = tt
+home_from_within r (suc n) m v b all = go (v r b) (home_from_within (r + 1) n m v b (omega (arith, all)))
+  where
+    go : (o : Option BucketView) → IfSome (location_from (r + 1) n v b) (λ h. h.region < m)
+        → IfSome (or_location r o (location_from (r + 1) n v b)) (λ h. h.region < m)
+    go None later = later
+    go (Some t) later = omega (arith, all)
+
+at_home_within : (n : ℕ) (p q : BucketLocation → Plan) → ((h : BucketLocation) → h.region < n → p h ≡ q h) → (o : Option BucketLocation)
+    → IfSome o (λ h. h.region < n) → at_location p o ≡ at_location q o
+at_home_within n p q same None within = refl
+at_home_within n p q same (Some h) within = same h within
+
+statuses-same : (s t : Name → VersionId → Option Status) → ((key : Name) (id : VersionId) → s key id ≡ t key id) → (entries : List Listed)
+    → asked.statuses_of s entries ≡ asked.statuses_of t entries
+statuses-same s t same [] = refl
+statuses-same s t same (entry ∷ entries) =
+    ap (λ o. status_or_none o ∷ asked.statuses_of s entries) (same entry.key entry.id)
+    ∙ ap (λ xs. status_or_none (t entry.key entry.id) ∷ xs) (statuses-same s t same entries)
+
+page-same : (s t : Name → VersionId → Option Status) → ((key : Name) (id : VersionId) → s key id ≡ t key id)
+    → (prefix : List ℕ) (after : Option ListPosition) (limit : ℕ)
+    (at : BucketView) → page s prefix after limit at ≡ page t prefix after limit at
+page-same s t same prefix after limit at = go (is_place_there after at.rows)
+  where
+    go : (u : _) → cond u (listed s (listing prefix after limit at.rows)) (refuses refusals.NoSuchVersion)
+        ≡ cond u (listed t (listing prefix after limit at.rows)) (refuses refusals.NoSuchVersion)
+    go true = ap (λ xs. Shows (answer.Listing (listing prefix after limit at.rows) xs)) (statuses-same s t same (listing prefix after limit at.rows).entries)
+    go false = refl
+
+shown-same : (s t : VersionId → Option Status) → ((id : VersionId) → s id ≡ t id)
+    → (version : Option VersionId) (head : _) (h : BucketLocation) (o : Option Entry)
+    → shown s version head h o ≡ shown t version head h o
+shown-same s t same version head h None = refl
+shown-same s t same version head h (Some row) = ap (λ x. object_shown h.region version head h.told.locked (status_or_none x) row) (same row.id)
 
 -- a configuration's plan asks only where its destinations are, and what is told of them there
 module _ (at by : Name → Option BucketLocation) (b : Name) (same : (name : Name) → at name ≡ by name) where
@@ -95,27 +161,36 @@ replication_same at by b rules same h =
     (cond h.told.enabled o (Some refusals.InvalidBucketState))) (wrong_same at by b same 1 rules)
 
 -- a request's plan asks only where its bucket is, and what is told of it there
-pub plan_same : (n : ℕ) (v u : Views) (q : Request) → ((b : Name) (r : ℕ) → r < n → v r b ≡ u r b) → plan n v q ≡ plan n u q
-plan_same n v u (request.CreateBucket name region locked) same = rw (home_same n v u name (same name)) refl
-plan_same n v u (request.HeadBucket name) same = rw (home_same n v u name (same name)) refl
-plan_same n v u (request.DeleteBucket name) same = rw (home_same n v u name (same name)) refl
-plan_same n v u (request.PutVersioning name enabled) same = rw (home_same n v u name (same name)) refl
-plan_same n v u (request.GetVersioning name) same = rw (home_same n v u name (same name)) refl
-plan_same n v u (request.PutReplication name config) same =
+pub plan_same : (n : ℕ) (v u : Views) (s t : VersionStatuses) (q : Request) → ((b : Name) (r : ℕ) → r < n → v r b ≡ u r b)
+    → ((b key : Name) (id : VersionId) (r : ℕ) → r < n → s r b key id ≡ t r b key id) → plan n v s q ≡ plan n u t q
+plan_same n v u s t (request.CreateBucket name region locked) same alike = rw (home_same n v u name (same name)) refl
+plan_same n v u s t (request.HeadBucket name) same alike = rw (home_same n v u name (same name)) refl
+plan_same n v u s t (request.DeleteBucket name) same alike = rw (home_same n v u name (same name)) refl
+plan_same n v u s t (request.PutVersioning name enabled) same alike = rw (home_same n v u name (same name)) refl
+plan_same n v u s t (request.GetVersioning name) same alike = rw (home_same n v u name (same name)) refl
+plan_same n v u s t (request.PutReplication name config) same alike =
     let locations : (b : Name) → location n v b ≡ location n u b = λ b. home_same n v u b (same b) in
     ap (at_location (replication (location n v) name config)) (locations name)
     ∙ at_home_same (replication (location n v) name config) (replication (location n u) name config)
     (replication_same (location n v) (location n u) name config locations) (location n u name)
-plan_same n v u (request.GetReplication name) same = rw (home_same n v u name (same name)) refl
-plan_same n v u (request.DeleteReplication name) same = rw (home_same n v u name (same name)) refl
-plan_same n v u (request.ListVersions name prefix after limit) same = rw (home_same n v u name (same name)) refl
-plan_same n v u (request.PutObject b key body tags hold class) same = rw (home_same n v u b (same b)) refl
-plan_same n v u (request.GetObject b key version) same = rw (home_same n v u b (same b)) refl
-plan_same n v u (request.DeleteObject b key version) same = rw (home_same n v u b (same b)) refl
-plan_same n v u (request.PutTags b key version tags gone) same = rw (home_same n v u b (same b)) refl
-plan_same n v u (request.GetTags b key version) same = rw (home_same n v u b (same b)) refl
-plan_same n v u (request.PutHold b key version hold) same = rw (home_same n v u b (same b)) refl
-plan_same n v u (request.GetHold b key version) same = rw (home_same n v u b (same b)) refl
+plan_same n v u s t (request.GetReplication name) same alike = rw (home_same n v u name (same name)) refl
+plan_same n v u s t (request.DeleteReplication name) same alike = rw (home_same n v u name (same name)) refl
+plan_same n v u s t (request.ListVersions name prefix after limit) same alike =
+    ap (at_location (λ h. page (s h.region name) prefix after limit h.told)) (home_same n v u name (same name))
+    ∙ at_home_within n (λ h. page (s h.region name) prefix after limit h.told) (λ h. page (t h.region name) prefix after limit h.told)
+    (λ h lt. page-same (s h.region name) (t h.region name) (λ key id. alike name key id h.region lt) prefix after limit h.told)
+    (location n u name) (home_from_within 0 n n u name (omega arith))
+plan_same n v u s t (request.PutObject b key body tags hold class) same alike = rw (home_same n v u b (same b)) refl
+plan_same n v u s t (request.GetObject b key version head) same alike =
+    ap (at_location (object_asked s b key version head)) (home_same n v u b (same b))
+    ∙ at_home_within n (object_asked s b key version head) (object_asked t b key version head)
+    (λ h lt. shown-same (s h.region b key) (t h.region b key) (λ id. alike b key id h.region lt) version head h (sought key version h.told))
+    (location n u b) (home_from_within 0 n n u b (omega arith))
+plan_same n v u s t (request.DeleteObject b key version) same alike = rw (home_same n v u b (same b)) refl
+plan_same n v u s t (request.PutTags b key version tags gone) same alike = rw (home_same n v u b (same b)) refl
+plan_same n v u s t (request.GetTags b key version) same alike = rw (home_same n v u b (same b)) refl
+plan_same n v u s t (request.PutHold b key version hold) same alike = rw (home_same n v u b (same b)) refl
+plan_same n v u s t (request.GetHold b key version) same alike = rw (home_same n v u b (same b)) refl
 
 -- ---- each region is known
 
@@ -141,10 +216,11 @@ known_here events stores w keeps read r lt = history_of (known events r) (all_kn
 
 -- the step that a plan over the stores makes
 pub step_is : (events : Events) (stores : List Store) (w : Outside) → Keeps events stores w → AreRead stores → (q : Request)
-    → step (length stores) (history_at events) q ≡ made_of (length stores) (history_at events) (plan (length stores) (views_of stores) q)
+    → step (length stores) (history_at events) q ≡ made_of (length stores) (history_at events) (plan (length stores) (views_of stores) (statuses_of stores) q)
 step_is events stores w keeps read q =
-    ap (made_of (length stores) (history_at events)) (sym (plan_same (length stores) (views_of stores) (views (history_at events)) q
-    (λ b r lt. views_are events stores w keeps read b r lt)))
+    ap (made_of (length stores) (history_at events)) (sym (plan_same (length stores) (views_of stores) (views (history_at events)) (statuses_of stores)
+    (statuses (history_at events)) q (λ b r lt. views_are events stores w keeps read b r lt)
+    (λ b key id r lt. statuses_are events stores w keeps read b key id r lt)))
 
 -- a region that doesn't have the bucket is passed over
 pub home_on : (n r : ℕ) (v : Views) (b : Name) (h : Option BucketLocation) → r < n → v r b ≡ None → location_from r (n - r) v b ≡ h

@@ -51,7 +51,8 @@ module _ (before : Events) (a b : List Store) (r : ℕ) (s s' : Store) (old mid 
   }
 
   -- the region's history was found
-  pub touches_found : s'.regions ≡ length a → IsNext (IsBelow (length a)) (so_far.touched ++ before) r → (held : LoadedRegion) (h : History) → s'.held ≡ Some held
+  pub touches_found : s'.regions ≡ length a → IsNext (IsBelow (length a)) (so_far.touched ++ before) r → (held : LoadedRegion) (h : History) → s'.held
+      ≡ Some held
       → Knows (length a) r held h new
       → Touches before (Ok tt) a (slice_set b r s') old new
   touches_found regions next held h is knows =

@@ -1,6 +1,8 @@
 -- What stores tell of buckets.
 use Rattle.std.specs.Prelude.{◌≡◌, ℕ, nat_lt, List, Option, Some, None, Result, Ok, Err, slice_get, if◌then◌else◌}
 use Rattle.std.specs.Borrow.{Bor}
+use Rattle.s3r_names.specs.declared.outcome.Status.{Status}
+use Rattle.s3r_names.specs.declared.version.VersionId.{VersionId}
 use Rattle.s3r_history.specs.Past.{Entry}
 use Rattle.s3r_history.specs.declared.refusal.Refusal.{Refusal}
 use Rattle.std.specs.Option.{option_and_then}
@@ -9,10 +11,11 @@ use Rattle.s3r_history.specs.BucketView.{BucketView}
 use Rattle.s3r_region.specs.declared.bucket.Bucket.{Bucket}
 use Rattle.s3r_region.specs.Contents.{Contents}
 use Rattle.s3r_region.specs.After.{seen_bucket, seen, told_by}
+use Rattle.s3r_region.specs.View.{seen_status}
 use Rattle.s3r_store.specs.declared.store.Store.{Store}
 use Rattle.s3r_store.specs.Stores.{state_of}
 use Rattle.s3r_desk.specs.declared.bucket_location.BucketLocation as declared
-use Rattle.s3r_desk.specs.Steps.{BucketLocation, Views}
+use Rattle.s3r_desk.specs.Steps.{BucketLocation, Views, VersionStatuses}
 
 abbrev pub bucket_in : Name → Store → Option Bucket
 bucket_in b store = option_and_then (λ (state : Contents). seen_bucket state b) (state_of store)
@@ -23,6 +26,13 @@ told_in b store = option_and_then (λ (state : Contents). seen state b) (state_o
 -- what so many stores tell, one for each region
 abbrev pub views_of : List Store → Views
 views_of stores r b = option_and_then (told_in b) (slice_get stores r)
+
+-- the status of a version, as a store tells it
+abbrev pub status_in : Name → Name → VersionId → Store → Option Status
+status_in b key id store = option_and_then (λ (state : Contents). seen_status state b key id) (state_of store)
+
+abbrev pub statuses_of : List Store → VersionStatuses
+statuses_of stores r b key id = option_and_then (status_in b key id) (slice_get stores r)
 
 -- the region of a bucket, and what it tells of it
 abbrev pub seen_location : declared.BucketLocation → BucketLocation

@@ -1,6 +1,7 @@
 -- What the desk does at a request.
 use Rattle.std.specs.Prelude.{◌≡◌, ◌⊎◌, ℕ, ◌+◌, ◌<◌, ◌≤◌, List, [], ◌∷◌, ◌++◌, length, Some, None, Result, Ok, Err, OnErr, IsSome}
 use Rattle.s3r_world.specs.Image.{Image}
+use Rattle.s3r_world.specs.declared.world.Side.TheVariants as side
 use Rattle.s3r_world.specs.Outside.{Outside, Looks, Counts, Rises}
 use Rattle.s3r_record.specs.declared.command.Command.{Command}
 use Rattle.s3r_history.specs.Words.{History}
@@ -175,7 +176,7 @@ pub record Responds (before : Events) (request : Request) (result : Result Answe
 -- a fault was counted, and is told of its volume
 abbrev pub HasCause : {A : Type 0} → ℕ → Result A DeskFault → Counts → Counts → Type 0
 HasCause n (Ok a) old new = Unit {0}
-HasCause n (Err (faults.Volume v)) old new = (v < n) × Rises 1 (old.volume v) (new.volume v)
+HasCause n (Err (faults.Volume v)) old new = (v < n) × Rises 1 (side.Volume v) old new
 HasCause n (Err (faults.Full v)) old new = v < n
 HasCause n (Err (faults.Damaged v offset)) old new = v < n
 HasCause n (Err faults.OutOfMemory) old new = Unit {0}

@@ -2,6 +2,8 @@
 use Rattle.std.specs.Prelude.{ℕ, zero, suc, ◌+◌, ◌<◌, ◌≤◌, ◌==◌, Bool, true, false, nat_lt, map, List, [], ◌∷◌, ◌++◌, length, Option, Some, None, Result, Ok, Err, is_some, if◌then◌else◌, IsTrue}
 use Rattle.s3r_names.specs.declared.version.VersionId.{VersionId}
 use Rattle.s3r_names.specs.Version.{IsVersionId}
+use Rattle.s3r_names.specs.declared.outcome.Status.{Status}
+use Rattle.s3r_names.specs.declared.outcome.Status.TheVariants as status
 use Rattle.s3r_names.specs.Tags.{is_tag_set}
 use Rattle.std.specs.Str.{bytes_eq}
 use Rattle.s3r_names.specs.Bucket.{is_bucket_name}
@@ -14,10 +16,14 @@ use Rattle.s3r_record.specs.declared.command.Command.TheVariants as command
 use Rattle.s3r_record.specs.Spelling.{IsCommand, fits_record}
 use Rattle.s3r_versions.specs.Lookup.{find_version, latest}
 use Rattle.s3r_versions.specs.Listing.{is_place_there, listing}
+use Rattle.s3r_versions.specs.declared.listing.Listed.{Listed}
+use Rattle.s3r_versions.specs.declared.listing.Listing.{Listing}
 use Rattle.s3r_versions.specs.declared.listing.ListPosition.{ListPosition}
 use Rattle.s3r_history.specs.Words.{Name, History}
 use Rattle.s3r_history.specs.Past.{Entry}
-use Rattle.s3r_history.specs.BucketView.{BucketView, told}
+use Rattle.s3r_history.specs.BucketView.{BucketView}
+use Rattle.s3r_history.specs.RegionView.{view}
+use Rattle.s3r_history.specs.Told.{told}
 use Rattle.s3r_history.specs.Accepts.{refusal}
 use Rattle.s3r_history.specs.declared.replication.Replication.{Replication}
 use Rattle.s3r_history.specs.declared.refusal.Refusal.{Refusal}
@@ -27,8 +33,9 @@ use Rattle.s3r_desk.specs.declared.request.Request.{Request}
 use Rattle.s3r_desk.specs.declared.request.Request.TheVariants as request
 use Rattle.s3r_desk.specs.declared.request.Answer.{Answer}
 use Rattle.s3r_desk.specs.declared.request.Answer.TheVariants as answer
+use Rattle.s3r_desk.specs.declared.request.ObjectMetadata.{ObjectMetadata}
 use Rattle.s3r_desk.specs.declared.planning.Plan.{Plan}
-use Rattle.s3r_desk.specs.declared.planning.Plan.TheVariants.{Shows, Commits}
+use Rattle.s3r_desk.specs.declared.planning.Plan.TheVariants.{Shows, Fetches, Commits}
 use Rattle.s3r_desk.specs.declared.planning.Reply.{Reply}
 use Rattle.s3r_desk.specs.declared.planning.Reply.TheVariants.{Is, Written, Marked}
 use Rattle.s3r_desk.specs.Events.{found, began, Events}
@@ -42,6 +49,10 @@ Histories = ℕ → History
 -- what each region tells of a bucket's name
 abbrev pub Views : Type 0
 Views = ℕ → Name → Option BucketView
+
+-- the status of a version of a bucket in each region, where it is there
+abbrev pub VersionStatuses : Type 0
+VersionStatuses = ℕ → Name → Name → VersionId → Option Status
 
 abbrev pub refuses : Refusal → Plan
 refuses why = Shows (answer.Refused why)
@@ -109,18 +120,40 @@ creation n name locked there (Some r) =
     if nat_lt r n then (if is_some there then refuses refusals.BucketAlreadyExists else Commits r (command.CreateBucket name locked) (Is answer.Done))
     else refuses refusals.InvalidLocation
 
-abbrev pub page : List ℕ → Option ListPosition → ℕ → BucketView → Plan
-page prefix after limit at = if is_place_there after at.rows then Shows
-    (answer.Listing (listing prefix after limit at.rows)) else refuses refusals.NoSuchVersion
+-- a version's status; of one that isn't there nothing is to be copied
+abbrev pub status_or_none : Option Status → Status
+status_or_none None = status.NoTask
+status_or_none (Some s) = s
 
--- a version with its body, or a marker in its place
-abbrev pub object_shown : Option VersionId → Bool → Entry → Plan
-object_shown version locked row = if row.marker then Shows (answer.MarkerThere row.id (is_some version)) else Shows
-    (answer.Object row.id row.class locked row.hold row.body)
+-- the statuses of the versions of a listing
+abbrev pub statuses_of : (Name → VersionId → Option Status) → List Listed → List Status
+statuses_of statuses entries = map (λ (entry : Listed). status_or_none (statuses entry.key entry.id)) entries
 
-abbrev pub shown : Option VersionId → Bool → Option Entry → Plan
-shown version locked None = refuses (missing version)
-shown version locked (Some row) = object_shown version locked row
+abbrev pub listed : (Name → VersionId → Option Status) → Listing → Plan
+listed statuses listing = Shows (answer.Listing listing (statuses_of statuses listing.entries))
+
+abbrev pub page : (Name → VersionId → Option Status) → List ℕ → Option ListPosition → ℕ → BucketView → Plan
+page statuses prefix after limit at =
+    if is_place_there after at.rows then listed statuses (listing prefix after limit at.rows) else refuses refusals.NoSuchVersion
+
+abbrev pub metadata_of : Bool → Status → Entry → ObjectMetadata
+metadata_of locked status row = record { id = row.id; class = row.class; status = status; locked = locked; hold = row.hold; length = row.length }
+
+-- a version of the region r: with its body, which is to be fetched, or without it where its head alone is asked for
+abbrev pub version_shown : ℕ → Bool → ObjectMetadata → Entry → Plan
+version_shown r head object row = if head then Shows (answer.Object object []) else Fetches r object row.body
+
+-- or a marker in its place
+abbrev pub object_shown : ℕ → Option VersionId → Bool → Bool → Status → Entry → Plan
+object_shown r version head locked status row =
+    if row.marker then Shows (answer.MarkerThere row.id (is_some version)) else version_shown r head (metadata_of locked status row) row
+
+abbrev pub shown : (VersionId → Option Status) → Option VersionId → Bool → BucketLocation → Option Entry → Plan
+shown statuses version head h None = refuses (missing version)
+shown statuses version head h (Some row) = object_shown h.region version head h.told.locked (status_or_none (statuses row.id)) row
+
+abbrev pub object_asked : VersionStatuses → Name → Name → Option VersionId → Bool → BucketLocation → Plan
+object_asked statuses b key version head h = shown (statuses h.region b key) version head h (sought key version h.told)
 
 -- a version is removed where it is there
 abbrev pub removal : BucketLocation → Name → Name → VersionId → Option Entry → Plan
@@ -184,31 +217,33 @@ dropping b h (Some r) = commits_at h (command.DropReplication b) (Is (answer.Gon
 
 -- ---- each request
 
-abbrev pub plan : ℕ → Views → Request → Plan
-plan n views (request.CreateBucket name region locked) = creation n name locked (location n views name) region
-plan n views (request.HeadBucket name) = at_location (λ h. Shows answer.Done) (location n views name)
-plan n views (request.DeleteBucket name) = at_location (λ h. commits_at h (command.DeleteBucket name) (Is (answer.Gone None false))) (location n views name)
-plan n views (request.PutVersioning name enabled) = at_location (λ h. commits_at h (command.SetVersioning name enabled) (Is answer.Done))
+abbrev pub plan : ℕ → Views → VersionStatuses → Request → Plan
+plan n views statuses (request.CreateBucket name region locked) = creation n name locked (location n views name) region
+plan n views statuses (request.HeadBucket name) = at_location (λ h. Shows answer.Done) (location n views name)
+plan n views statuses (request.DeleteBucket name) =
+    at_location (λ h. commits_at h (command.DeleteBucket name) (Is (answer.Gone None false))) (location n views name)
+plan n views statuses (request.PutVersioning name enabled) = at_location (λ h. commits_at h (command.SetVersioning name enabled) (Is answer.Done))
     (location n views name)
-plan n views (request.GetVersioning name) = at_location (λ h. Shows (answer.Versioning h.told.enabled)) (location n views name)
-plan n views (request.PutReplication name config) = at_location (replication (location n views) name config) (location n views name)
-plan n views (request.GetReplication name) = at_location (λ h. configuration h.told.config) (location n views name)
-plan n views (request.DeleteReplication name) = at_location (λ h. dropping name h h.told.config) (location n views name)
-plan n views (request.ListVersions name prefix after limit) = at_location (λ h. page prefix after limit h.told) (location n views name)
-plan n views (request.PutObject b key body tags hold class) = at_location (λ h. commits_at h (command.Put b key tags hold class body) Written)
+plan n views statuses (request.GetVersioning name) = at_location (λ h. Shows (answer.Versioning h.told.enabled)) (location n views name)
+plan n views statuses (request.PutReplication name config) = at_location (replication (location n views) name config) (location n views name)
+plan n views statuses (request.GetReplication name) = at_location (λ h. configuration h.told.config) (location n views name)
+plan n views statuses (request.DeleteReplication name) = at_location (λ h. dropping name h h.told.config) (location n views name)
+plan n views statuses (request.ListVersions name prefix after limit) = at_location (λ h. page (statuses h.region name) prefix after limit h.told)
+    (location n views name)
+plan n views statuses (request.PutObject b key body tags hold class) = at_location (λ h. commits_at h (command.Put b key tags hold class body) Written)
     (location n views b)
-plan n views (request.GetObject b key version) = at_location (λ h. shown version h.told.locked (sought key version h.told)) (location n views b)
-plan n views (request.DeleteObject b key version) = at_location (deletion b key version) (location n views b)
-plan n views (request.PutTags b key version tags gone) =
+plan n views statuses (request.GetObject b key version head) = at_location (object_asked statuses b key version head) (location n views b)
+plan n views statuses (request.DeleteObject b key version) = at_location (deletion b key version) (location n views b)
+plan n views statuses (request.PutTags b key version tags gone) =
     at_location (λ h. with_object (λ row. commits_at h (command.SetTags b key row.id tags) (tags_reply gone row.id)) (object_at key version h))
     (location n views b)
-plan n views (request.GetTags b key version) = at_location (λ h. with_object (λ row. Shows (answer.TagSet row.tags)) (object_at key version h))
+plan n views statuses (request.GetTags b key version) = at_location (λ h. with_object (λ row. Shows (answer.TagSet row.tags)) (object_at key version h))
     (location n views b)
-plan n views (request.PutHold b key version hold) =
+plan n views statuses (request.PutHold b key version hold) =
     at_location (λ h. if_locked h (with_object (λ row. commits_at h (command.SetHold b key row.id hold) (Is (answer.Written row.id)))
     (object_at key version h))) (location n views b)
-plan n views (request.GetHold b key version) = at_location (λ h. if_locked h (with_object (λ row. Shows (answer.Hold row.hold)) (object_at key version h)))
-    (location n views b)
+plan n views statuses (request.GetHold b key version) =
+    at_location (λ h. if_locked h (with_object (λ row. Shows (answer.Hold row.hold)) (object_at key version h))) (location n views b)
 
 -- ---- the step
 
@@ -241,14 +276,19 @@ reply_at r index Marked = answer.Gone (Some (record { region = r; index = index 
 
 abbrev pub made_of : ℕ → Histories → Plan → Step
 made_of n at (Shows reply) = answers reply
+made_of n at (Fetches r object body) = answers (answer.Object object body)
 made_of n at (Commits r c reply) = commits_to n at r c (reply_at r (length (at r) + 1) reply)
 
 -- what the histories tell of buckets
 abbrev pub views : Histories → Views
 views at r b = told r (at r) b
 
+-- and of versions
+abbrev pub statuses : Histories → VersionStatuses
+statuses at r b key id = (view r (at r)).status b key id
+
 abbrev pub step : ℕ → Histories → Request → Step
-step n at request = made_of n at (plan n (views at) request)
+step n at request = made_of n at (plan n (views at) (statuses at) request)
 
 -- an id that is named meets its rule
 abbrev pub IsNamed : Option VersionId → Type 0
@@ -267,7 +307,7 @@ IsRequest (request.GetReplication name) = Unit {0}
 IsRequest (request.DeleteReplication name) = IsTrue (is_bucket_name name)
 IsRequest (request.ListVersions name prefix after limit) = 1 ≤ limit
 IsRequest (request.PutObject b key body tags hold class) = IsCommand (command.Put b key tags hold class body)
-IsRequest (request.GetObject b key version) = Unit {0}
+IsRequest (request.GetObject b key version head) = Unit {0}
 IsRequest (request.DeleteObject b key version) = IsCommand (command.Marker b key) × IsNamed version
 IsRequest (request.PutTags b key version tags gone) = IsCommand (command.Marker b key) × IsTrue (is_tag_set tags)
 IsRequest (request.GetTags b key version) = Unit {0}
@@ -298,4 +338,5 @@ FitRooms room at (commit ∷ commits) = (length_with commit.region (at commit.re
 -- a command that is planned meets its fields' rules, and goes to one of n regions
 abbrev pub FitsIn : ℕ → Plan → Type 0
 FitsIn n (Shows reply) = Unit {0}
+FitsIn n (Fetches r object body) = r < n
 FitsIn n (Commits r c reply) = (r < n) × IsCommand c

@@ -1,5 +1,5 @@
 //! Requests, answered by the histories of all regions.
-ghost use Rattle.std.specs.Prelude.{◌≡◌, ◌≤◌, ◌<◌, ℕ, IsTrue, length};
+ghost use Rattle.std.specs.Prelude.{◌≡◌, ◌≤◌, ◌<◌, ℕ, IsTrue, IfOk, IfErr, length};
 ghost use Rattle.s3r_world.specs.Outside.{KeepsShape, NoneFalls};
 ghost use Rattle.s3r_record.specs.Spelling.{IsCommand};
 ghost use Rattle.s3r_desk.specs.Events.{Events, history_at};
@@ -9,8 +9,8 @@ ghost use Rattle.s3r_desk.specs.Responds.{Answers, Makes, HasCause};
 
 use crate::committing::{Committed, commit};
 use crate::planning::{Plan, Reply, plan_of};
-use crate::{Answer, DeskFault, Request};
-use s3r_names::VersionId;
+use crate::{Answer, DeskFault, ObjectMetadata, Request};
+use s3r_names::{Kept, VersionId};
 use s3r_record::Command;
 use s3r_store::Store;
 use s3r_world::World;
@@ -73,6 +73,27 @@ fn make<W: World>(
     }
 }
 
+// Fetches the body of a version, and shows both.
+fn fetch<W: World>(
+    alloc: Global,
+    world: &mut W,
+    stores: &mut Vec<Store>,
+    region: usize,
+    object: ObjectMetadata,
+    body: Kept,
+) -> Result<Answer, DeskFault>
+    requires { region < length stores.old.items }
+    ensures answer { IfOk result (λ reply. reply ≡ Answer.Object object body) }
+    ensures fault { IfErr result (λ fault. fault ≡ DeskFault.OutOfMemory) }
+    ensures stores { stores.new.items ≡ stores.old.items }
+    ensures world { world.new ≡ world.old }
+{
+    match stores[region].body(alloc, world, &body) {
+        Ok(body) => Ok(Answer::Object { object, body }),
+        Err(_) => Err(DeskFault::OutOfMemory),
+    }
+}
+
 /// Makes a request's step, once all regions are read, and answers it. A refusal leaves all as it was.
 ///
 /// `Full` leaves all as it was. After `Volume` the commit to that region is in doubt, and the region unread. After
@@ -100,6 +121,11 @@ pub fn answer<W: World>(
 {
     match plan_of(alloc, stores, request)? {
         Plan::Shows(answer) => Ok(answer),
+        Plan::Fetches {
+            region,
+            object,
+            body,
+        } => fetch(alloc, world, stores, region, object, body),
         Plan::Commits {
             region,
             command,

@@ -40,8 +40,9 @@ pub fn commit<W: World>(
     requires tied { IsTrue W.tells → AreTied stores.old.items (W.outside world.old) }
     requires read { AreRead stores.old.items }
     requires fits { IsCommand command }
-    ensures told { IsTrue W.tells → (before : Events) (h : History) → Keeps before stores.old.items (W.outside world.old) → known before region ≡ Some h →
-        CommitsOne before (length stores.old.items) region h command ((W.shape world.old).room region) result stores.new.items (W.outside world.old) (W.outside world.new) }
+    ensures told { IsTrue W.tells → (before : Events) (h : History) → Keeps before stores.old.items (W.outside world.old)
+        → known before region ≡ Some h → CommitsOne before (length stores.old.items) region h command
+        ((W.shape world.old).room region) result stores.new.items (W.outside world.old) (W.outside world.new) }
     ensures count { length stores.new.items ≡ length stores.old.items }
     ensures numbered { AreNumbered stores.new.items }
     ensures cause { HasCause (length stores.old.items) result (W.faults world.old) (W.faults world.new) }

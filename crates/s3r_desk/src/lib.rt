@@ -22,6 +22,6 @@ mod versioning;
 pub use desk::Desk;
 pub use fault::DeskFault;
 pub use laws::no_region_is_missing;
-pub use request::{Answer, Request};
+pub use request::{Answer, ObjectMetadata, Request, Statuses};
 pub use s3r_history::Refusal;
 pub use s3r_versions::{Entries, ListPosition, Listed, Listing};

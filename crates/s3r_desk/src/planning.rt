@@ -2,7 +2,7 @@
 ghost use Rattle.std.specs.Prelude.{◌≡◌, ◌<◌, ◌≤◌, ℕ, IfOk, IfSome, option_map, length};
 ghost use Rattle.s3r_record.specs.Spelling.{IsCommand};
 ghost use Rattle.s3r_desk.specs.Steps.{IsRequest, FitsIn, refuses, at_location, commits_at, plan};
-ghost use Rattle.s3r_desk.specs.Lookups.{views_of, seen_location};
+ghost use Rattle.s3r_desk.specs.Lookups.{views_of, statuses_of, seen_location};
 
 use crate::bucket::{create_bucket, head_bucket};
 use crate::bucket_location::BucketLocation;
@@ -13,8 +13,9 @@ use crate::object::{delete_object, get_object};
 use crate::replication::{delete_replication, get_replication, put_replication};
 use crate::tagging::{get_tags, put_tags};
 use crate::versioning::get_versioning;
-use crate::{Answer, Request};
+use crate::{Answer, ObjectMetadata, Request};
 use s3r_history::Refusal;
+use s3r_names::Kept;
 use s3r_record::Command;
 use s3r_store::Store;
 use std::alloc::{AllocError, Global};
@@ -24,6 +25,12 @@ use std::alloc::{AllocError, Global};
 pub enum Plan {
     /// The answer, and nothing is committed.
     Shows(Answer),
+    /// A version of a region is shown, its body is to be fetched, and nothing is committed.
+    Fetches {
+        region: usize,
+        object: ObjectMetadata,
+        body: Kept,
+    },
     /// A command to a region, and the answer once it is committed.
     Commits {
         region: usize,
@@ -68,7 +75,7 @@ fn commits(location: Option<BucketLocation<'_>>, command: Command, reply: Reply)
 pub fn plan_of(alloc: Global, stores: &[Store], request: Request) -> Result<Plan, AllocError>
     requires few { length stores.now ≤ 8 }
     requires fits { IsRequest request }
-    ensures planned { IfOk result (λ p. p ≡ plan (length stores.now) (views_of stores.now) request) }
+    ensures planned { IfOk result (λ p. p ≡ plan (length stores.now) (views_of stores.now) (statuses_of stores.now) request) }
     ensures fits { IfOk result (λ p. FitsIn (length stores.now) p) }
 {
     match request {
@@ -103,7 +110,7 @@ pub fn plan_of(alloc: Global, stores: &[Store], request: Request) -> Result<Plan
             prefix,
             after,
             limit,
-        } => list_versions(alloc, location_of(stores, &name), prefix, after, limit),
+        } => list_versions(alloc, stores, name, prefix, after, limit),
         Request::PutObject {
             bucket,
             key,
@@ -127,7 +134,8 @@ pub fn plan_of(alloc: Global, stores: &[Store], request: Request) -> Result<Plan
             bucket,
             key,
             version,
-        } => get_object(location_of(stores, &bucket), key, version),
+            head,
+        } => get_object(alloc, stores, bucket, key, version, head),
         Request::DeleteObject {
             bucket,
             key,

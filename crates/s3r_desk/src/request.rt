@@ -1,8 +1,11 @@
 //! What is asked of the desk, and what it answers.
+ghost use Rattle.std.specs.Prelude.{◌≡◌};
+
 use s3r_history::Refusal;
-use s3r_names::{BucketName, Bytes, ClassName, Key, TagSet, Text, VersionId};
+use s3r_names::{BucketName, Bytes, ClassName, Key, Status, TagSet, Text, VersionId};
 use s3r_rules::Config;
 use s3r_versions::{ListPosition, Listing};
+use std::marker::Model;
 
 /// A request, read and not looked at further. A version that isn't named is the latest of the key. A body has at most
 /// 4,194,304 bytes.
@@ -58,11 +61,12 @@ pub enum Request {
         hold: bool,
         class: ClassName,
     },
-    /// A version of an object, with its body.
+    /// A version of an object, with its body, or without it where `head` says so.
     GetObject {
         bucket: BucketName,
         key: Key,
         version: Option<VersionId>,
+        head: bool,
     },
     /// A marker over the object's versions, or the removal of the one that is named.
     DeleteObject {
@@ -98,6 +102,49 @@ pub enum Request {
     },
 }
 
+/// What is told of a version beside its body.
+#[derive(Drop)]
+pub struct ObjectMetadata {
+    pub id: VersionId,
+    pub class: ClassName,
+    /// How far its replication is.
+    pub status: Status,
+    /// Whether its bucket has Object Lock.
+    pub locked: bool,
+    pub hold: bool,
+    /// How many bytes its body has.
+    pub length: u32,
+}
+
+/// How far the replication of several versions is, seen as the list of their statuses.
+#[derive(Drop)]
+pub struct Statuses {
+    statuses: Vec<Status>,
+}
+
+impl Model for Statuses {
+    ghost use Rattle.std.specs.Prelude.{List};
+    ghost use Rattle.s3r_names.specs.declared.outcome.Status.{Status};
+
+    ghost Value = { List Status };
+
+    ghost view = { λ object. object.statuses.items };
+}
+
+impl Statuses {
+    pub fn from_vec(statuses: Vec<Status>) -> Statuses
+        ensures { result ≡ statuses.items }
+    {
+        Statuses { statuses }
+    }
+
+    pub fn as_slice(&self) -> &[Status]
+        ensures { result.now ≡ self.now }
+    {
+        self.statuses.as_slice()
+    }
+}
+
 /// What a request comes to.
 #[derive(Drop)]
 pub enum Answer {
@@ -112,13 +159,9 @@ pub enum Answer {
         id: Option<VersionId>,
         marker: bool,
     },
-    /// A version and its body.
+    /// A version and its body, which is left empty where it wasn't asked for.
     Object {
-        id: VersionId,
-        class: ClassName,
-        /// Whether its bucket has Object Lock.
-        locked: bool,
-        hold: bool,
+        object: ObjectMetadata,
         body: Bytes,
     },
     /// A marker stands in place of a version. `named` says that it was asked for by its id.
@@ -133,5 +176,9 @@ pub enum Answer {
     Versioning(bool),
     /// The rules by which a bucket is copied.
     Configuration(Config),
-    Listing(Listing),
+    /// Versions and markers, and beside each how far its replication is.
+    Listing {
+        listing: Listing,
+        statuses: Statuses,
+    },
 }

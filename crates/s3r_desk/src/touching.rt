@@ -16,6 +16,7 @@ use std::alloc::Global;
 fn touch_one<W: World>(alloc: Global, world: &mut W, store: &mut Store) -> Result<(), DeskFault>
     requires volume { store.old.v < (W.shape world.old).volumes }
     requires region { store.old.v ≤ 7 }
+    requires some { 1 ≤ store.old.regions }
     requires tied { IsTrue W.tells → Ties store.old (W.outside world.old) }
     ensures told { IsTrue W.tells → Looks (W.outside world.old) (W.outside world.new) }
     ensures holds { IsTrue W.tells → OnOk result ((h : History) × Holds store.new h (W.outside world.new)) }

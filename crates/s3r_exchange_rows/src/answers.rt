@@ -4,9 +4,9 @@ use crate::escape::{escaped, unescaped};
 use crate::row::{RowFault, first_cell, first_word};
 use http::StatusCode;
 use s3r_api::{Problem, answer_bytes, problem_bytes};
-use s3r_desk::{Answer, DeskFault, Refusal};
+use s3r_desk::{Answer, DeskFault, ObjectMetadata, Refusal};
 use s3r_http::{Field, print_response};
-use s3r_names::{Bytes, ClassName, Text, VersionId};
+use s3r_names::{Bytes, ClassName, Status, Text, VersionId};
 use std::alloc::{AllocError, Global};
 
 fn says_head(flags: &str) -> bool {
@@ -84,24 +84,53 @@ pub fn written(alloc: Global, cells: &str) -> Result<String, RowFault> {
     answer_text(alloc, flags, Ok(Answer::Written(id)))
 }
 
-/// `object | FLAGS | REGION INDEX | CLASS | LOCK | BODY`: a version of a bucket whose Object Lock is `none`, or which
-/// has it, with a hold that is `OFF` or `ON`.
+/// A status by its name.
+pub fn status_named(name: &str) -> Result<Status, RowFault> {
+    match name {
+        "NoTask" => Ok(Status::NoTask),
+        "Pending" => Ok(Status::Pending),
+        "Completed" => Ok(Status::Completed),
+        "Failed" => Ok(Status::Failed),
+        "Replica" => Ok(Status::Replica),
+        _ => Err(RowFault::NoRow),
+    }
+}
+
+/// What is told of a version, by its cells.
+fn object_of(
+    alloc: Global,
+    id: &str,
+    class: &str,
+    lock: &str,
+    status: &str,
+    length: &str,
+) -> Result<ObjectMetadata, RowFault> {
+    let id = id_of(id)?;
+    let status = status_named(status)?;
+    let length = length.parse::<u32>()?;
+    let class = ClassName::read(alloc, class.as_bytes())?;
+    Ok(ObjectMetadata {
+        id,
+        class,
+        status,
+        locked: lock != "none",
+        hold: lock == "ON",
+        length,
+    })
+}
+
+/// `object | FLAGS | REGION INDEX | CLASS | LOCK | STATUS | LENGTH | BODY`: a version of a bucket whose Object Lock is
+/// `none`, or which has it, with a hold that is `OFF` or `ON`.
 pub fn object(alloc: Global, cells: &str) -> Result<String, RowFault> {
     let (flags, cells) = first_cell(cells);
     let (id, cells) = first_cell(cells);
     let (class, cells) = first_cell(cells);
-    let (lock, body) = first_cell(cells);
-    let id = id_of(id)?;
-    let class = ClassName::read(alloc, class.as_bytes())?;
+    let (lock, cells) = first_cell(cells);
+    let (status, cells) = first_cell(cells);
+    let (length, body) = first_cell(cells);
+    let object = object_of(alloc, id, class, lock, status, length)?;
     let body = Bytes::from_vec(unescaped(alloc, body)?);
-    let answer = Answer::Object {
-        id,
-        class,
-        locked: lock != "none",
-        hold: lock == "ON",
-        body,
-    };
-    answer_text(alloc, flags, Ok(answer))
+    answer_text(alloc, flags, Ok(Answer::Object { object, body }))
 }
 
 fn refusal_named(name: &str) -> Option<Refusal> {

@@ -1,12 +1,12 @@
 //! The answers that list versions.
 
-use crate::answers::{answer_text, id_of};
+use crate::answers::{answer_text, id_of, status_named};
 use crate::escape::unescaped;
 use crate::row::{RowFault, first_cell, first_word};
-use s3r_desk::Answer;
-use s3r_names::{ClassName, Key, NameFault, Stamp, TagSet, VersionId};
+use s3r_desk::{Answer, Listing, Statuses};
+use s3r_names::{ClassName, Key, NameFault, Stamp, Status, TagSet, VersionId};
 use s3r_versions::{Row, Rows};
-use std::alloc::Global;
+use std::alloc::{AllocError, Global};
 
 /// A version's length, which a marker has none of.
 fn length_of(cell: &str) -> Result<Option<u32>, RowFault> {
@@ -31,6 +31,7 @@ fn row_of(
         key: Key::read(alloc, key)?,
         id,
         n: id.index,
+        place: id.index,
         marker: length.is_none(),
         body: 0,
         length: length.unwrap_or(0),
@@ -70,15 +71,37 @@ fn rows_of(alloc: Global, cells: &str) -> Result<Rows<u8>, RowFault> {
     Ok(rows)
 }
 
-/// `listing | LIMIT | VERSION | ..`: the first page of a bucket with these versions.
-pub fn listing(alloc: Global, cells: &str) -> Result<String, RowFault> {
-    let (limit, versions) = first_cell(cells);
-    let limit = limit.parse::<usize>()?;
+fn push_status(statuses: &mut Vec<Status>, status: Status) -> Result<(), AllocError> {
+    statuses.push(status)?;
+    Ok(())
+}
+
+/// Statuses by their names, `-` standing for none.
+fn statuses_of(alloc: Global, cell: &str) -> Result<Statuses, RowFault> {
+    let mut statuses = Vec::new(alloc);
+    for name in cell.split(' ') {
+        if name != "-" {
+            push_status(&mut statuses, status_named(name)?)?;
+        }
+    }
+    Ok(Statuses::from_vec(statuses))
+}
+
+/// The first page of a bucket with these versions.
+fn page_of(alloc: Global, limit: usize, versions: &str) -> Result<Listing, RowFault> {
     let rows = rows_of(alloc, versions)?;
     let page = rows.list(alloc, "", None, limit.max(1));
     drop(rows);
-    match page {
-        Ok(page) => answer_text(alloc, "-", Ok(Answer::Listing(page))),
-        Err(_) => Err(RowFault::OutOfMemory),
-    }
+    page.map_err(|_| RowFault::OutOfMemory)
+}
+
+/// `listing | LIMIT | STATUS .. | VERSION | ..`: the first page of a bucket with these versions, and the statuses of
+/// its entries.
+pub fn listing(alloc: Global, cells: &str) -> Result<String, RowFault> {
+    let (limit, cells) = first_cell(cells);
+    let (statuses, versions) = first_cell(cells);
+    let limit = limit.parse::<usize>()?;
+    let statuses = statuses_of(alloc, statuses)?;
+    let listing = page_of(alloc, limit, versions)?;
+    answer_text(alloc, "-", Ok(Answer::Listing { listing, statuses }))
 }

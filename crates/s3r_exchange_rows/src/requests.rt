@@ -69,8 +69,14 @@ pub fn request_text(alloc: Global, request: &Request) -> Result<String, AllocErr
             let class = class.as_str();
             format!(in alloc; "put {} '{}' {hold} {class}", key.as_str(), tags.as_str())
         }
-        Request::GetObject { key, version, .. } => {
-            format!(in alloc; "get {} {}", key.as_str(), index_of(version))
+        Request::GetObject {
+            key,
+            version,
+            head,
+            ..
+        } => {
+            let word = if *head { "head of" } else { "get" };
+            format!(in alloc; "{word} {} {}", key.as_str(), index_of(version))
         }
         Request::DeleteObject { key, version, .. } => {
             format!(in alloc; "delete {} {}", key.as_str(), index_of(version))

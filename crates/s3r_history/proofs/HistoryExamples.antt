@@ -26,6 +26,7 @@ entry n index body length = record {
   key = codes "a";
   id = record { region = 0; index = index };
   n = n;
+  place = index;
   marker = false;
   body = body;
   length = length;

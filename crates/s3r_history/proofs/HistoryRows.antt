@@ -3,6 +3,7 @@ use Rattle.std.proofs.Common.{◌≡◌, ℕ, Bool, true, false, cond, not, ◌&
 use Rattle.std.specs.List.{list_all}
 use Rattle.std.proofs.lemmas.Bool.{and_parts, not-true}
 use Rattle.s3r_names.specs.Stamp.{is_before}
+use Rattle.s3r_names.specs.declared.outcome.Outcome.{Outcome}
 use Rattle.s3r_names.specs.declared.stamp.Stamp.{Stamp}
 use Rattle.s3r_names.specs.declared.tags.Tag.{Tag}
 use Rattle.s3r_names.specs.declared.version.VersionId.{VersionId}
@@ -25,7 +26,7 @@ use Rattle.s3r_history.proofs.Present.{newest_of, written, written-place, presen
 
 -- ---- the listing order
 
-all-in_order : (p : Entry → Bool) (vs : List Entry) → list_all p vs ≡ true → list_all p (in_order vs) ≡ true
+pub all-in_order : (p : Entry → Bool) (vs : List Entry) → list_all p vs ≡ true → list_all p (in_order vs) ≡ true
 all-in_order p [] all = refl
 all-in_order p (v ∷ vs) all =
     let parts = and_parts (p v) (list_all p vs) all in
@@ -72,10 +73,11 @@ once-map f keeps (v ∷ vs) =
     same : (u w : Entry) → not (is_version (f u).key (f u).id (f w)) ≡ not (is_version u.key u.id w)
     same u w = rw (keeps.key u, keeps.id u, keeps.key w, keeps.id w) refl
 
-    one : (u : Entry) (ws : List Entry) → list_all (λ (w : Entry). not (is_version (f u).key (f u).id w)) (map f ws) ≡ list_all
-        (λ (w : Entry). not (is_version u.key u.id w)) ws
+    one : (u : Entry) (ws : List Entry) → list_all (λ (w : Entry). not (is_version (f u).key (f u).id w)) (map f ws)
+        ≡ list_all (λ (w : Entry). not (is_version u.key u.id w)) ws
     one u [] = refl
-    one u (w ∷ ws) = ap (λ t. t && list_all (λ (x : Entry). not (is_version (f u).key (f u).id x)) (map f ws)) (same u w)
+    one u (w ∷ ws) =
+        ap (λ t. t && list_all (λ (x : Entry). not (is_version (f u).key (f u).id x)) (map f ws)) (same u w)
         ∙ ap (λ t. not (is_version u.key u.id w) && t) (one u ws)
 
 abbrev present : Past → Name → List Entry
@@ -91,7 +93,7 @@ pub all-map : (p : Entry → Bool) (f : Entry → Entry) → ((v : Entry) → p 
 all-map p f same [] = refl
 all-map p f same (v ∷ vs) = ap (λ t. t && list_all p (map f vs)) (same v) ∙ ap (λ t. p v && t) (all-map p f same vs)
 
--- each row is of the region, and of a command that was there
+-- each row is of a command that was there, or of another region
 pub rows_old : (r : ℕ) (h : History) (b : Name) → list_all (is_old r (length (deeds r h)) (clock (deeds r h))) (rows (deeds r h) b) ≡ true
 rows_old r h b =
     all-in_order (is_old r (length (deeds r h)) (clock (deeds r h))) (present (deeds r h) b)
@@ -126,12 +128,12 @@ kept-map b c f keeps (v ∷ vs) = go (not (removes b v.key v.id c)) (same v) (ke
 
 -- A command that isn't the bucket's creation writes, removes and adds.
 pub rows-step : (r : ℕ) (h : History) (b : Name) (c : Command) → creates b c ≡ false
-    → rows (deeds r (c ∷ h)) b ≡ added b (deed r (deeds r h) c).adds (map (written b (deed r (deeds r h) c)) (kept_by b c (rows (deeds r h) b)))
+    → rows (deeds r (c ∷ h)) b ≡ added b (deed r h (deeds r h) c).adds (map (written b (deed r h (deeds r h) c)) (kept_by b c (rows (deeds r h) b)))
 rows-step r h b c goes_on =
     ap (λ vs. in_order (map (at_present (d ∷ past) b) vs)) (versions-step b d past goes_on)
     ∙ ap in_order (present-front d past b d.adds (kept_by b c (versions past b)) refl
-    (some_of d.adds (λ (a : Added) new. all-filter (λ (v : Entry). not (is_version a.row.key a.row.id v)) (λ (v : Entry). not (removes b v.key v.id c))
-    (versions past b) new) (unknown r h b c)))
+    (some_of d.adds (λ (a : Added) new same. all-filter (λ (v : Entry). not (is_version a.row.key a.row.id v)) (λ (v : Entry). not (removes b v.key v.id c))
+    (versions past b) (new same)) (unknown r h b c)))
     ∙ order-front b d.adds (map (written b d) (map (at_present past b) (kept_by b c (versions past b))))
     ∙ ap (added b d.adds)
     (ap (λ vs. in_order (map (written b d) vs)) (kept-map b c (at_present past b) (present-place past b) (versions past b))
@@ -142,25 +144,25 @@ rows-step r h b c goes_on =
     past = deeds r h
 
     d : Deed
-    d = deed r (deeds r h) c
+    d = deed r h (deeds r h) c
 
 -- the bucket's creation leaves none
 pub rows-birth : (r : ℕ) (h : History) (b : Name) (c : Command) → creates b c ≡ true → rows (deeds r (c ∷ h)) b ≡ []
-rows-birth r h b c begins = ap (λ vs. in_order (map (at_present (deeds r (c ∷ h)) b) vs)) (versions-birth b (deed r (deeds r h) c) (deeds r h) begins)
+rows-birth r h b c begins = ap (λ vs. in_order (map (at_present (deeds r (c ∷ h)) b) vs)) (versions-birth b (deed r h (deeds r h) c) (deeds r h) begins)
 
 -- ---- command by command
 
-kept-all : (b : Name) (c : Command) → ((key : Name) (id : VersionId) → removes b key id c ≡ false) → (rs : List Entry) → kept_by b c rs ≡ rs
+pub kept-all : (b : Name) (c : Command) → ((key : Name) (id : VersionId) → removes b key id c ≡ false) → (rs : List Entry) → kept_by b c rs ≡ rs
 kept-all b c none [] = refl
 kept-all b c none (row ∷ rs) = ap (λ t. cond (not t) (row ∷ kept_by b c rs) (kept_by b c rs)) (none row.key row.id) ∙ ap (λ xs. row ∷ xs) (kept-all b c none rs)
 
-unwritten : (b : Name) (d : Deed) → ((key : Name) (id : VersionId) → tag_write b key id d.stamp d.command ≡ None)
-    → ((key : Name) (id : VersionId) → hold_write b key id d.stamp d.command ≡ None)
+pub unwritten : (b : Name) (d : Deed) → ((key : Name) (id : VersionId) → tag_write b key id d ≡ None)
+    → ((key : Name) (id : VersionId) → hold_write b key id d ≡ None)
     → (rs : List Entry) → map (written b d) rs ≡ rs
 unwritten b d tags hold [] = refl
 unwritten b d tags hold (row ∷ rs) =
-    ap (λ o. set_to row (newest_of o (row.tags_stamp, row.tags)) (newest_of (hold_write b row.key row.id d.stamp d.command) (row.hold_stamp, row.hold)) ∷ map
-    (written b d) rs) (tags row.key row.id)
+    ap (λ o. set_to row (newest_of o (row.tags_stamp, row.tags)) (newest_of (hold_write b row.key row.id d) (row.hold_stamp, row.hold)) ∷ map (written b d) rs)
+    (tags row.key row.id)
     ∙ ap (λ o. set_to row (row.tags_stamp, row.tags) (newest_of o (row.hold_stamp, row.hold)) ∷ map (written b d) rs) (hold row.key row.id)
     ∙ ap (λ xs. row ∷ xs) (unwritten b d tags hold rs)
 
@@ -171,8 +173,8 @@ rows-put r h b bucket key tags hold class body =
     let c = command.Put bucket key tags hold class body in
     rows-step r h b c refl
     ∙ ap (λ rs. cond (bytes_eq bucket b) (with_row (version (next_stamp r (deeds r h)) key tags hold class body) rs) rs)
-    (ap (map (written b (deed r (deeds r h) c))) (kept-all b c (λ k i. refl) (rows (deeds r h) b))
-    ∙ unwritten b (deed r (deeds r h) c) (λ k i. refl) (λ k i. refl) (rows (deeds r h) b))
+    (ap (map (written b (deed r h (deeds r h) c))) (kept-all b c (λ k i. refl) (rows (deeds r h) b))
+    ∙ unwritten b (deed r h (deeds r h) c) (λ k i. refl) (λ k i. refl) (rows (deeds r h) b))
 
 pub rows-marker : (r : ℕ) (h : History) (b bucket key : Name)
     → rows (deeds r (command.Marker bucket key ∷ h)) b ≡ cond (bytes_eq bucket b) (with_row (marker (next_stamp r (deeds r h)) key) (rows (deeds r h) b))
@@ -181,8 +183,8 @@ rows-marker r h b bucket key =
     let c = command.Marker bucket key in
     rows-step r h b c refl
     ∙ ap (λ rs. cond (bytes_eq bucket b) (with_row (marker (next_stamp r (deeds r h)) key) rs) rs)
-    (ap (map (written b (deed r (deeds r h) c))) (kept-all b c (λ k i. refl) (rows (deeds r h) b))
-    ∙ unwritten b (deed r (deeds r h) c) (λ k i. refl) (λ k i. refl) (rows (deeds r h) b))
+    (ap (map (written b (deed r h (deeds r h) c))) (kept-all b c (λ k i. refl) (rows (deeds r h) b))
+    ∙ unwritten b (deed r h (deeds r h) c) (λ k i. refl) (λ k i. refl) (rows (deeds r h) b))
 
 pub rows-create : (r : ℕ) (h : History) (b name : Name) (locked : Bool)
     → rows (deeds r (command.CreateBucket name locked ∷ h)) b ≡ cond (bytes_eq name b) [] (rows (deeds r h) b)
@@ -192,35 +194,35 @@ rows-create r h b name locked = go (bytes_eq name b) refl
     go true e = rows-birth r h b (command.CreateBucket name locked) e
     go false e =
         rows-step r h b (command.CreateBucket name locked) e
-        ∙ ap (map (written b (deed r (deeds r h) (command.CreateBucket name locked))))
+        ∙ ap (map (written b (deed r h (deeds r h) (command.CreateBucket name locked))))
         (kept-all b (command.CreateBucket name locked) (λ k i. refl) (rows (deeds r h) b))
-        ∙ unwritten b (deed r (deeds r h) (command.CreateBucket name locked)) (λ k i. refl) (λ k i. refl) (rows (deeds r h) b)
+        ∙ unwritten b (deed r h (deeds r h) (command.CreateBucket name locked)) (λ k i. refl) (λ k i. refl) (rows (deeds r h) b)
 
 -- a command that writes no row, nor removes one, nor adds one
-rows-same : (r : ℕ) (h : History) (b : Name) (c : Command) → creates b c ≡ false → (deed r (deeds r h) c).adds ≡ None
+rows-same : (r : ℕ) (h : History) (b : Name) (c : Command) → creates b c ≡ false → (deed r h (deeds r h) c).adds ≡ None
     → ((key : Name) (id : VersionId) → removes b key id c ≡ false)
-    → ((stamp : Stamp) (key : Name) (id : VersionId) → tag_write b key id stamp c ≡ None)
-    → ((stamp : Stamp) (key : Name) (id : VersionId) → hold_write b key id stamp c ≡ None)
+    → ((key : Name) (id : VersionId) → tag_write b key id (deed r h (deeds r h) c) ≡ None)
+    → ((key : Name) (id : VersionId) → hold_write b key id (deed r h (deeds r h) c) ≡ None)
     → rows (deeds r (c ∷ h)) b ≡ rows (deeds r h) b
 rows-same r h b c goes_on adds none tags hold =
-    let d = deed r (deeds r h) c in
+    let d = deed r h (deeds r h) c in
     rows-step r h b c goes_on
     ∙ ap (λ o. added b o (map (written b d) (kept_by b c (rows (deeds r h) b)))) adds
     ∙ ap (map (written b d)) (kept-all b c none (rows (deeds r h) b))
-    ∙ unwritten b d (λ k i. tags d.stamp k i) (λ k i. hold d.stamp k i) (rows (deeds r h) b)
+    ∙ unwritten b d tags hold (rows (deeds r h) b)
 
 pub rows-delete : (r : ℕ) (h : History) (b name : Name) → rows (deeds r (command.DeleteBucket name ∷ h)) b ≡ rows (deeds r h) b
-rows-delete r h b name = rows-same r h b (command.DeleteBucket name) refl refl (λ k i. refl) (λ s k i. refl) (λ s k i. refl)
+rows-delete r h b name = rows-same r h b (command.DeleteBucket name) refl refl (λ k i. refl) (λ k i. refl) (λ k i. refl)
 
 pub rows-switch : (r : ℕ) (h : History) (b name : Name) (enabled : Bool) → rows (deeds r (command.SetVersioning name enabled ∷ h)) b ≡ rows (deeds r h) b
-rows-switch r h b name enabled = rows-same r h b (command.SetVersioning name enabled) refl refl (λ k i. refl) (λ s k i. refl) (λ s k i. refl)
+rows-switch r h b name enabled = rows-same r h b (command.SetVersioning name enabled) refl refl (λ k i. refl) (λ k i. refl) (λ k i. refl)
 
 pub rows-replicate : (r : ℕ) (h : History) (b name : Name) (config : List Rule) (regions : List ℕ)
     → rows (deeds r (command.SetReplication name config regions ∷ h)) b ≡ rows (deeds r h) b
-rows-replicate r h b name config regions = rows-same r h b (command.SetReplication name config regions) refl refl (λ k i. refl) (λ s k i. refl) (λ s k i. refl)
+rows-replicate r h b name config regions = rows-same r h b (command.SetReplication name config regions) refl refl (λ k i. refl) (λ k i. refl) (λ k i. refl)
 
 pub rows-drop : (r : ℕ) (h : History) (b name : Name) → rows (deeds r (command.DropReplication name ∷ h)) b ≡ rows (deeds r h) b
-rows-drop r h b name = rows-same r h b (command.DropReplication name) refl refl (λ k i. refl) (λ s k i. refl) (λ s k i. refl)
+rows-drop r h b name = rows-same r h b (command.DropReplication name) refl refl (λ k i. refl) (λ k i. refl) (λ k i. refl)
 
 removes_those : (t : Bool) (key : Name) (id : VersionId) (rs : List Entry)
     → filter (λ (v : Entry). not (t && is_version key id v)) rs ≡ cond t (without_version key id rs) rs
@@ -233,33 +235,33 @@ pub rows-remove : (r : ℕ) (h : History) (b bucket key : Name) (id : VersionId)
 rows-remove r h b bucket key id =
     let c = command.Remove bucket key id in
     rows-step r h b c refl
-    ∙ unwritten b (deed r (deeds r h) c) (λ k i. refl) (λ k i. refl) (kept_by b c (rows (deeds r h) b))
+    ∙ unwritten b (deed r h (deeds r h) c) (λ k i. refl) (λ k i. refl) (kept_by b c (rows (deeds r h) b))
     ∙ removes_those (bytes_eq bucket b) key id (rows (deeds r h) b)
 
 -- a write with the newer stamp
-tags_set : (stamp : Stamp) (tags : List Tag) (it : Bool) (row : Entry)
+pub tags_set : (stamp : Stamp) (tags : List Tag) (it : Bool) (row : Entry)
     → set_to row (newest_of (cond it (Some (stamp, tags)) None) (row.tags_stamp, row.tags)) (row.hold_stamp, row.hold) ≡ cond it (with_tags stamp tags row) row
 tags_set stamp tags true row = go (is_before row.tags_stamp stamp)
   where
-    go : (t : Bool) → set_to row (cond t (stamp, tags) (row.tags_stamp, row.tags)) (row.hold_stamp, row.hold) ≡ cond t
-        (record row { tags = tags; tags_stamp = stamp }) row
+    go : (t : Bool) → set_to row (cond t (stamp, tags) (row.tags_stamp, row.tags)) (row.hold_stamp, row.hold)
+        ≡ cond t (record row { tags = tags; tags_stamp = stamp }) row
     go true = refl
     go false = refl
 tags_set stamp tags false row = refl
 
-hold_set : (stamp : Stamp) (hold : Bool) (it : Bool) (row : Entry)
+pub hold_set : (stamp : Stamp) (hold : Bool) (it : Bool) (row : Entry)
     → set_to row (row.tags_stamp, row.tags) (newest_of (cond it (Some (stamp, hold)) None) (row.hold_stamp, row.hold)) ≡ cond it (with_hold stamp hold row) row
 hold_set stamp hold true row = go (is_before row.hold_stamp stamp)
   where
-    go : (t : Bool) → set_to row (row.tags_stamp, row.tags) (cond t (stamp, hold) (row.hold_stamp, row.hold)) ≡ cond t
-        (record row { hold = hold; hold_stamp = stamp }) row
+    go : (t : Bool) → set_to row (row.tags_stamp, row.tags) (cond t (stamp, hold) (row.hold_stamp, row.hold))
+        ≡ cond t (record row { hold = hold; hold_stamp = stamp }) row
     go true = refl
     go false = refl
 hold_set stamp hold false row = refl
 
 abbrev sets_tags : Stamp → List Tag → Name → VersionId → Bool → Entry → Entry
-sets_tags stamp tags key id t row = set_to row (newest_of (cond (t && is_version key id row) (Some (stamp, tags)) None) (row.tags_stamp, row.tags))
-    (row.hold_stamp, row.hold)
+sets_tags stamp tags key id t row =
+    set_to row (newest_of (cond (t && is_version key id row) (Some (stamp, tags)) None) (row.tags_stamp, row.tags)) (row.hold_stamp, row.hold)
 
 sets_those_tags : (stamp : Stamp) (tags : List Tag) (key : Name) (id : VersionId) (t : Bool) (rs : List Entry)
     → map (sets_tags stamp tags key id t) rs ≡ cond t (on_version key id (with_tags stamp tags) rs) rs
@@ -276,12 +278,12 @@ pub rows-tags : (r : ℕ) (h : History) (b bucket key : Name) (id : VersionId) (
 rows-tags r h b bucket key id tags =
     let c = command.SetTags bucket key id tags in
     rows-step r h b c refl
-    ∙ ap (map (written b (deed r (deeds r h) c))) (kept-all b c (λ k i. refl) (rows (deeds r h) b))
+    ∙ ap (map (written b (deed r h (deeds r h) c))) (kept-all b c (λ k i. refl) (rows (deeds r h) b))
     ∙ sets_those_tags (next_stamp r (deeds r h)) tags key id (bytes_eq bucket b) (rows (deeds r h) b)
 
 abbrev sets_hold : Stamp → Bool → Name → VersionId → Bool → Entry → Entry
-sets_hold stamp hold key id t row = set_to row (row.tags_stamp, row.tags)
-    (newest_of (cond (t && is_version key id row) (Some (stamp, hold)) None) (row.hold_stamp, row.hold))
+sets_hold stamp hold key id t row =
+    set_to row (row.tags_stamp, row.tags) (newest_of (cond (t && is_version key id row) (Some (stamp, hold)) None) (row.hold_stamp, row.hold))
 
 sets_that_hold : (stamp : Stamp) (hold : Bool) (key : Name) (id : VersionId) (t : Bool) (rs : List Entry)
     → map (sets_hold stamp hold key id t) rs ≡ cond t (on_version key id (with_hold stamp hold) rs) rs
@@ -298,5 +300,12 @@ pub rows-hold : (r : ℕ) (h : History) (b bucket key : Name) (id : VersionId) (
 rows-hold r h b bucket key id hold =
     let c = command.SetHold bucket key id hold in
     rows-step r h b c refl
-    ∙ ap (map (written b (deed r (deeds r h) c))) (kept-all b c (λ k i. refl) (rows (deeds r h) b))
+    ∙ ap (map (written b (deed r h (deeds r h) c))) (kept-all b c (λ k i. refl) (rows (deeds r h) b))
     ∙ sets_that_hold (next_stamp r (deeds r h)) hold key id (bytes_eq bucket b) (rows (deeds r h) b)
+
+pub rows-settle : (r : ℕ) (h : History) (b : Name) (to number : ℕ) (outcome : Outcome)
+    → rows (deeds r (command.Settle to number outcome ∷ h)) b ≡ rows (deeds r h) b
+rows-settle r h b to number outcome = rows-same r h b (command.Settle to number outcome) refl refl (λ k i. refl) (λ k i. refl) (λ k i. refl)
+
+pub rows-attempt : (r : ℕ) (h : History) (b : Name) (to number : ℕ) → rows (deeds r (command.Attempt to number ∷ h)) b ≡ rows (deeds r h) b
+rows-attempt r h b to number = rows-same r h b (command.Attempt to number) refl refl (λ k i. refl) (λ k i. refl) (λ k i. refl)

@@ -1,21 +1,25 @@
 -- What is true of ids, stamps and the latest rows.
-use Rattle.std.proofs.Common.{◌≡◌, ℕ, zero, suc, ◌<◌, ◌≤◌, ◌⊎◌, inl, inr, Bool, true, false, cond, not, ◌&&◌, ◌||◌, ◌==◌, nat_le, List, [], ◌∷◌, Some, None, find, Contains, length, bytes_eq, refl, sym, ap, ◌∙◌, arith, leb-true, eqb-true, eq-eqb, lt-ltb}
+use Rattle.std.proofs.Common.{◌≡◌, ℕ, zero, suc, ◌+◌, ◌<◌, ◌≤◌, Bool, true, false, cond, not, ◌||◌, nat_le, List, [], ◌∷◌, Some, None, find, Contains, length, bytes_eq, refl, sym, ap, ◌∙◌, arith, leb-true, eq-eqb, lt-ltb}
 use Rattle.std.specs.List.{list_all}
-use Rattle.std.proofs.lemmas.Bool.{and_parts, and_from, or_left, or_right, cases_lt}
+use Rattle.std.proofs.lemmas.Bool.{and_parts, and_from, or_left, not-true}
 use Rattle.std.proofs.lemmas.Cmp.{nat_list_eq_equiv}
 use Rattle.s3r_names.specs.declared.tags.Tag.{Tag}
 use Rattle.s3r_names.specs.declared.version.VersionId.{VersionId}
 use Rattle.s3r_record.specs.declared.command.Command.{Command}
 use Rattle.s3r_record.specs.declared.command.Command.TheVariants as command
+use Rattle.s3r_record.specs.declared.effect.Effect.TheVariants as effects
+use Rattle.s3r_record.specs.Spelling.{IsEffect, IsCommand}
 use Rattle.s3r_versions.specs.Order.{is_later, comes_before}
 use Rattle.s3r_versions.specs.Lookup.{is_of_key, is_version, find_version}
 use Rattle.s3r_versions.specs.Contents.{with_row, without_version}
 use Rattle.s3r_versions.proofs.ListingOrder.{later_before}
 use Rattle.s3r_versions.proofs.Latest.{first-is-latest}
 use Rattle.s3r_history.specs.Words.{Name, History}
-use Rattle.s3r_history.specs.Past.{Entry, Past, clock, n_of}
+use Rattle.s3r_history.specs.Past.{Entry, Carried, Past, carried_n, clock, n_of}
+use Rattle.s3r_history.specs.Judging.{is_ahead}
 use Rattle.s3r_history.specs.Deeds.{deeds, next_stamp, version, marker}
 use Rattle.s3r_history.specs.Rows.{rows, row_at, latest}
+use Rattle.s3r_history.specs.Accepts.{IsLawful}
 use Rattle.s3r_history.proofs.Versions.{is_old, other_old, length-deeds, all-weaker}
 use Rattle.s3r_history.proofs.HistoryRows.{none-found, rows_old, rows_listed, rows-put, rows-marker, rows-remove}
 
@@ -24,32 +28,44 @@ all_at p [] y all (k, lt, e) = absurd (omega arith)
 all_at p (x ∷ xs) y all (zero, lt, e) = ap p (sym e) ∙ (and_parts (p x) (list_all p xs) all).0
 all_at p (x ∷ xs) y all (suc k, lt, e) = all_at p xs y (and_parts (p x) (list_all p xs) all).1 (k, omega arith, e)
 
-pub ids_own : (r : ℕ) (h : History) (b : Name) (row : Entry) → Contains (rows (deeds r h) b) row → (row.id.region ≡ r) × (row.id.index ≤ length h)
-ids_own r h b row there =
+pub ids_given : (r : ℕ) (h : History) (b : Name) (row : Entry) → Contains (rows (deeds r h) b) row → is_ahead r (length h) row.id ≡ false
+ids_given r h b row there =
     let old = all_at (is_old r (length (deeds r h)) (clock (deeds r h))) (rows (deeds r h) b) row (rows_old r h b) there in
-    let parts = and_parts (row.id.region == r) (nat_le row.id.index (length (deeds r h)) && nat_le row.n (clock (deeds r h))) old in
-    let le = leb-true row.id.index (length (deeds r h)) (and_parts (nat_le row.id.index (length (deeds r h))) (nat_le row.n (clock (deeds r h))) parts.1).0 in
-    (eqb-true row.id.region r parts.0, omega (arith, length-deeds r h))
+    ap (λ n. is_ahead r n row.id) (sym (length-deeds r h)) ∙ not-true _
+    (and_parts (not (is_ahead r (length (deeds r h)) row.id)) (nat_le row.n (clock (deeds r h))) old).0
 
-n_fits : (r : ℕ) (past : Past) (c : Command) → n_of c (next_stamp r past) ≤ 18446744073709551615
-n_fits r past (command.Put bucket key tags hold class body) = omega arith
-n_fits r past (command.Marker bucket key) = omega arith
-n_fits r past (command.SetTags bucket key id tags) = omega arith
-n_fits r past (command.SetHold bucket key id hold) = omega arith
-n_fits r past _ = omega arith
+carried_fits : (e : Carried) → IsEffect e → carried_n e ≤ 18446744073709551615
+carried_fits (effects.Replica from to key id n tags tags_stamp hold hold_stamp class body) is =
+    let limits = is.5 in
+    omega (arith, limits.1, limits.2.n, limits.3.n)
+carried_fits (effects.Marker from to key id n) is = let limits = is.3 in omega (arith, limits.1)
+carried_fits (effects.Tags from to key id tags stamp) is = let limits = is.4 in omega (arith, limits.1.n)
+carried_fits (effects.Hold from to key id hold stamp) is = let limits = is.3 in omega (arith, limits.1.n)
 
--- the clock never passes 64 bits
-pub clock_fits : (r : ℕ) (h : History) → clock (deeds r h) ≤ 18446744073709551615
-clock_fits r [] = omega arith
-clock_fits r (c ∷ h) = omega (arith, clock_fits r h, n_fits r (deeds r h) c)
+n_fits : (r : ℕ) (past : Past) (c : Command) → IsCommand c → n_of c (next_stamp r past) ≤ 18446744073709551615
+n_fits r past (command.Put bucket key tags hold class body) is = omega arith
+n_fits r past (command.Marker bucket key) is = omega arith
+n_fits r past (command.SetTags bucket key id tags) is = omega arith
+n_fits r past (command.SetHold bucket key id hold) is = omega arith
+n_fits r past (command.Receive from number effect) is = carried_fits effect is.1
+n_fits r past _ is = omega arith
+
+-- the clock of a lawful history never passes 64 bits
+pub clock_fits : (n r : ℕ) (h : History) → IsLawful n r h → clock (deeds r h) ≤ 18446744073709551615
+clock_fits n r [] lawful = omega arith
+clock_fits n r (c ∷ h) lawful = omega (arith, clock_fits n r h lawful.2, n_fits r (deeds r h) c lawful.0)
+
+pub own_ahead : (r k : ℕ) (id : VersionId) → id.region ≡ r → id.index ≡ k + 1 → is_ahead r k id ≡ true
+own_ahead r k id region index = and_from _ _ (eq-eqb id.region r region) (lt-ltb k id.index (omega arith))
 
 -- the id that the next command gives isn't there
-pub next_new : (r : ℕ) (h : History) (b key : Name) (id : VersionId) → id.index ≡ (next_stamp r (deeds r h)).index
+pub next_new : (r : ℕ) (h : History) (b key : Name) (id : VersionId) → id.region ≡ r → id.index ≡ (next_stamp r (deeds r h)).index
     → find_version key id (rows (deeds r h) b) ≡ None
-next_new r h b key id same =
+next_new r h b key id region same =
     none-found key id (rows (deeds r h) b)
     (all-weaker (is_old r (length (deeds r h)) (clock (deeds r h))) (λ (v : Entry). not (is_version key id v))
-    (λ v old. ap not (other_old r (length (deeds r h)) (clock (deeds r h)) key id v (omega (arith, same)) old)) (rows (deeds r h) b) (rows_old r h b))
+    (λ v old. ap not (other_old r (length (deeds r h)) (clock (deeds r h)) key id v (own_ahead r (length (deeds r h)) id region same) old)) (rows (deeds r h) b)
+    (rows_old r h b))
 
 -- a removed version is gone
 pub removed_gone : (r : ℕ) (h : History) (b key : Name) (id : VersionId) → row_at (deeds r (command.Remove b key id ∷ h)) b key id ≡ None
@@ -85,60 +101,46 @@ first_found key row (x ∷ xs) same all = go (comes_before row x) parts.0 (first
     go true h ih = ap (λ t. cond t (Some row) (find (is_of_key key) (x ∷ xs))) same
     go false h ih = ap (λ t. cond t (Some x) (find (is_of_key key) (with_row row xs))) (other (is_of_key key x) h) ∙ ih
 
--- a row under a newer stamp is later
-newer_later : (r k n : ℕ) (row x : Entry) → row.id.region ≡ r → k < row.id.index → n ≤ row.n → is_old r k n x ≡ true → is_later row x ≡ true
-newer_later r k n row x region index number old = go (cases_lt x.n row.n)
-  where
-    parts : ((x.id.region == r) ≡ true) × ((nat_le x.id.index k && nat_le x.n n) ≡ true)
-    parts = and_parts (x.id.region == r) (nat_le x.id.index k && nat_le x.n n) old
+-- a row under a greater number is later
+newer_later : (r k n : ℕ) (row x : Entry) → n < row.n → is_old r k n x ≡ true → is_later row x ≡ true
+newer_later r k n row x number old =
+    let le : x.n ≤ n = leb-true x.n n (and_parts (not (is_ahead r k x.id)) (nat_le x.n n) old).1 in
+    or_left _ _ (lt-ltb x.n row.n (omega arith))
 
-    rest : (nat_le x.id.index k ≡ true) × (nat_le x.n n ≡ true)
-    rest = and_parts (nat_le x.id.index k) (nat_le x.n n) parts.1
-
-    go : (x.n < row.n) ⊎ (row.n ≤ x.n) → is_later row x ≡ true
-    go (inl lt) = or_left _ _ (lt-ltb x.n row.n lt)
-    go (inr ge) =
-        let at : x.n ≤ n = leb-true x.n n rest.1 in
-        let from : x.id.index ≤ k = leb-true x.id.index k rest.0 in
-        or_right _ _ (and_from (x.n == row.n) _ (eq-eqb x.n row.n (omega arith))
-        (or_right _ _ (and_from (x.id.region == row.id.region) _ (eq-eqb x.id.region row.id.region (eqb-true x.id.region r parts.0 ∙ sym region))
-        (lt-ltb x.id.index row.id.index (omega arith)))))
-
-all_earlier : (r k n : ℕ) (key : Name) (row : Entry) (xs : List Entry) → is_of_key key row ≡ true → row.id.region ≡ r → k < row.id.index → n ≤ row.n
-    → list_all (is_old r k n) xs ≡ true
+all_earlier : (r k n : ℕ) (key : Name) (row : Entry) (xs : List Entry) → is_of_key key row ≡ true → n < row.n → list_all (is_old r k n) xs ≡ true
     → list_all (λ x. not (is_of_key key x) || comes_before row x) xs ≡ true
-all_earlier r k n key row [] same region index number all = refl
-all_earlier r k n key row (x ∷ xs) same region index number all =
-    and_from _ _ (go (is_of_key key x) refl) (all_earlier r k n key row xs same region index number parts.1)
+all_earlier r k n key row [] same number all = refl
+all_earlier r k n key row (x ∷ xs) same number all = and_from _ _ (go (is_of_key key x) refl) (all_earlier r k n key row xs same number parts.1)
   where
     parts : (is_old r k n x ≡ true) × (list_all (is_old r k n) xs ≡ true)
     parts = and_parts (is_old r k n x) (list_all (is_old r k n) xs) all
 
     go : (t : Bool) → is_of_key key x ≡ t → (not t || comes_before row x) ≡ true
-    go true h = later_before key row x same h (newer_later r k n row x region index number parts.0)
+    go true h = later_before key row x same h (newer_later r k n row x number parts.0)
     go false h = refl
 
--- a row under the newest stamp is the latest of its key
-added_latest : (r : ℕ) (h k : History) (b key : Name) (row : Entry) → rows (deeds r k) b ≡ with_row row (rows (deeds r h) b) → row.key ≡ key → row.id.region ≡ r
-    → length (deeds r h) < row.id.index → clock (deeds r h) ≤ row.n → latest (deeds r k) b key ≡ Some row
-added_latest r h k b key row is same region index number =
+-- a row under a greater number than all that were there is the latest of its key
+added_latest : (r : ℕ) (h k : History) (b key : Name) (row : Entry) → rows (deeds r k) b ≡ with_row row (rows (deeds r h) b) → row.key ≡ key
+    → clock (deeds r h) < row.n → latest (deeds r k) b key ≡ Some row
+added_latest r h k b key row is same number =
     sym (first-is-latest key (rows (deeds r k) b) (rows_listed r k b))
     ∙ ap (find (is_of_key key)) is
     ∙ first_found key row (rows (deeds r h) b) (ap (λ n. bytes_eq n key) same ∙ nat_list_eq_equiv.refl key)
-    (all_earlier r (length (deeds r h)) (clock (deeds r h)) key row (rows (deeds r h) b)
-    (ap (λ n. bytes_eq n key) same ∙ nat_list_eq_equiv.refl key) region index number (rows_old r h b))
+    (all_earlier r (length (deeds r h)) (clock (deeds r h)) key row (rows (deeds r h) b) (ap (λ n. bytes_eq n key) same ∙ nat_list_eq_equiv.refl key) number
+    (rows_old r h b))
 
-pub put_latest : (r : ℕ) (h : History) (b key : Name) (tags : List Tag) (hold : Bool) (class body : List ℕ)
+pub put_latest : (r : ℕ) (h : History) (b key : Name) (tags : List Tag) (hold : Bool) (class body : List ℕ) → clock (deeds r h) < 18446744073709551615
     → latest (deeds r (command.Put b key tags hold class body ∷ h)) b key ≡ Some (version (next_stamp r (deeds r h)) key tags hold class body)
-put_latest r h b key tags hold class body =
+put_latest r h b key tags hold class body runs =
     let row = version (next_stamp r (deeds r h)) key tags hold class body in
     added_latest r h (command.Put b key tags hold class body ∷ h) b key row
     (rows-put r h b b key tags hold class body ∙ ap (λ t. cond t (with_row row (rows (deeds r h) b)) (rows (deeds r h) b)) (nat_list_eq_equiv.refl b))
-    refl refl (omega arith) (omega (arith, clock_fits r h))
+    refl (omega (arith, runs))
 
-pub marker_latest : (r : ℕ) (h : History) (b key : Name) → latest (deeds r (command.Marker b key ∷ h)) b key ≡ Some (marker (next_stamp r (deeds r h)) key)
-marker_latest r h b key =
+pub marker_latest : (r : ℕ) (h : History) (b key : Name) → clock (deeds r h) < 18446744073709551615
+    → latest (deeds r (command.Marker b key ∷ h)) b key ≡ Some (marker (next_stamp r (deeds r h)) key)
+marker_latest r h b key runs =
     let row = marker (next_stamp r (deeds r h)) key in
     added_latest r h (command.Marker b key ∷ h) b key row
     (rows-marker r h b b key ∙ ap (λ t. cond t (with_row row (rows (deeds r h) b)) (rows (deeds r h) b)) (nat_list_eq_equiv.refl b))
-    refl refl (omega arith) (omega (arith, clock_fits r h))
+    refl (omega (arith, runs))

@@ -14,7 +14,8 @@ use Rattle.s3r_history.specs.Buckets.{Birth, Bucket, switches, configures, since
 use Rattle.s3r_history.specs.Past.{Entry}
 use Rattle.s3r_history.specs.Deeds.{deeds, next_stamp, version, marker}
 use Rattle.s3r_history.specs.Rows.{rows, removed, with_removed}
-use Rattle.s3r_history.specs.BucketView.{BucketView, told}
+use Rattle.s3r_history.specs.BucketView.{BucketView}
+use Rattle.s3r_history.specs.Told.{told}
 use Rattle.s3r_history.proofs.HistoryRows.{rows-put, rows-marker, rows-create, rows-delete, rows-switch, rows-replicate, rows-drop, rows-remove, rows-tags, rows-hold}
 
 -- what is told of a name, where what is told of one name has changed
@@ -40,7 +41,8 @@ switch enabled t = record t { enabled = enabled }
 abbrev pub configure : Option Replication → BucketView → BucketView
 configure config t = record t { config = config }
 
-abbrev shown : Option Bucket → List Entry → List VersionId → Option BucketView
+-- what is told of a bucket with these rows and removed ids, where it is there
+abbrev pub shown : Option Bucket → List Entry → List VersionId → Option BucketView
 shown at rs ids = option_map (λ (a : Bucket). record { locked = a.locked; enabled = a.enabled; config = a.config; rows = rs; removed = ids }) at
 
 pub told-put : (r : ℕ) (h : History) (name key : Name) (tags : List Tag) (hold : Bool) (class body : List ℕ) (b : Name)
@@ -56,8 +58,8 @@ told-put r h name key tags hold class body b =
     go row true (Some a) = refl
     go row false at = refl
 
-pub told-marker : (r : ℕ) (h : History) (name key b : Name) → told r (command.Marker name key ∷ h) b ≡ changed_at name
-    (add_row (marker (next_stamp r (deeds r h)) key)) (told r h) b
+pub told-marker : (r : ℕ) (h : History) (name key b : Name) → told r (command.Marker name key ∷ h) b
+    ≡ changed_at name (add_row (marker (next_stamp r (deeds r h)) key)) (told r h) b
 told-marker r h name key b =
     ap (λ rs. shown (bucket h b) rs (removed (deeds r h) b)) (rows-marker r h b name key)
     ∙ go (marker (next_stamp r (deeds r h)) key) (bytes_eq name b) (bucket h b)
@@ -118,14 +120,14 @@ told-switch r h name enabled b =
         → shown (option_map (λ (a : Birth). record {
           birth = a.place;
           locked = a.locked;
-          enabled =
-              unwrap_or (or_else (cond t (Some enabled) None) (newest (switches b) (since_birth b h))) true;
+          enabled = unwrap_or
+              (or_else (cond t (Some enabled) None) (newest (switches b) (since_birth b h))) true;
           config = configuration h b;
-        }) at)
-        (rows (deeds r h) b) (removed (deeds r h) b)
-        ≡ cond t (option_map (switch enabled) (shown (option_map (λ (a : Birth).
-        record { birth = a.place; locked = a.locked; enabled = is_enabled h b; config = configuration h b }) at) (rows (deeds r h) b)
-        (removed (deeds r h) b)))
+        }) at) (rows (deeds r h) b)
+        (removed (deeds r h) b)
+        ≡ cond t (option_map (switch enabled)
+        (shown (option_map (λ (a : Birth). record { birth = a.place; locked = a.locked; enabled = is_enabled h b; config = configuration h b }) at)
+        (rows (deeds r h) b) (removed (deeds r h) b)))
         (shown (option_map (λ (a : Birth). record { birth = a.place; locked = a.locked; enabled = is_enabled h b; config = configuration h b }) at)
         (rows (deeds r h) b) (removed (deeds r h) b))
     go true None = refl
@@ -138,11 +140,11 @@ configured : (h : History) (b : Name) (config : Option Replication) (rs : List E
       birth = a.place;
       locked = a.locked;
       enabled = is_enabled h b;
-      config =
-          flat (or_else (cond t (Some config) None) (newest (configures b) (since_birth b h)));
+      config = flat
+          (or_else (cond t (Some config) None) (newest (configures b) (since_birth b h)));
     }) at) rs ids
-    ≡ cond t (option_map (configure config) (shown (option_map (λ (a : Birth).
-    record { birth = a.place; locked = a.locked; enabled = is_enabled h b; config = configuration h b }) at) rs ids))
+    ≡ cond t (option_map (configure config) (shown (option_map (λ
+    (a : Birth). record { birth = a.place; locked = a.locked; enabled = is_enabled h b; config = configuration h b }) at) rs ids))
     (shown (option_map (λ (a : Birth). record { birth = a.place; locked = a.locked; enabled = is_enabled h b; config = configuration h b }) at) rs ids)
 configured h b config rs ids true None = refl
 configured h b config rs ids true (Some a) = refl
@@ -181,7 +183,7 @@ told-create r h name locked b =
     (rows-create r h b name locked) ∙ go (bytes_eq name b) refl
   where
     go : (t : Bool) → bytes_eq name b ≡ t
-        → shown (bucket (command.CreateBucket name locked ∷ h) b) (cond t [] (rows (deeds r h) b))
-        (removed (deeds r (command.CreateBucket name locked ∷ h)) b) ≡ cond t (Some (new_told locked)) (told r h b)
+        → shown (bucket (command.CreateBucket name locked ∷ h) b) (cond t [] (rows (deeds r h) b)) (removed (deeds r (command.CreateBucket name locked ∷ h)) b)
+        ≡ cond t (Some (new_told locked)) (told r h b)
     go true e = rw e refl
     go false e = rw e refl

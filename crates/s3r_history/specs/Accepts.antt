@@ -1,5 +1,5 @@
 -- Which commands a history accepts.
-use Rattle.std.specs.Prelude.{◌≡◌, ℕ, Bool, true, false, ◌&&◌, ◌||◌, not, nat_le, List, [], ◌∷◌, Option, Some, None, if◌then◌else◌, find, is_some, length}
+use Rattle.std.specs.Prelude.{◌≡◌, ℕ, Bool, true, false, ◌&&◌, ◌||◌, not, ◌==◌, nat_le, List, [], ◌∷◌, Option, Some, None, if◌then◌else◌, find, is_some}
 use Rattle.s3r_names.specs.declared.version.VersionId.{VersionId}
 use Rattle.s3r_record.specs.declared.command.Command.{Command}
 use Rattle.s3r_record.specs.declared.command.Command.TheVariants as command
@@ -8,9 +8,9 @@ use Rattle.s3r_versions.specs.Lookup.{find_version}
 use Rattle.s3r_history.specs.declared.refusal.Refusal.{Refusal}
 use Rattle.s3r_history.specs.declared.refusal.Refusal.TheVariants as refusals
 use Rattle.s3r_history.specs.Words.{Name, History}
-use Rattle.s3r_history.specs.Buckets.{names}
 use Rattle.s3r_history.specs.Past.{Entry}
-use Rattle.s3r_history.specs.BucketView.{BucketView, told}
+use Rattle.s3r_history.specs.BucketView.{BucketView}
+use Rattle.s3r_history.specs.RegionView.{RegionView, view}
 
 -- a condition under which a command is refused, and how
 abbrev pub Cause : Type 0
@@ -81,22 +81,38 @@ of_tags key id at = in_version of_a_marker (find_version key id at.rows)
 abbrev pub of_hold : Name → VersionId → BucketView → List Cause
 of_hold key id at = (not at.locked, refusals.LockNeeded) ∷ in_version of_a_marker (find_version key id at.rows)
 
--- why a command may be refused, in order, where there are n regions, by what is told of buckets and by how many there are
-abbrev pub causes : ℕ → (Name → Option BucketView) → ℕ → Command → List Cause
-causes n at count (command.CreateBucket name locked) = of_creation (at name) count
-causes n at count (command.DeleteBucket name) = in_bucket of_deletion (at name)
-causes n at count (command.SetVersioning name enabled) = in_bucket (of_switch enabled) (at name)
-causes n at count (command.SetReplication name config regions) = unless_beyond (in_bucket of_configuration (at name)) (beyond n regions)
-causes n at count (command.DropReplication name) = in_bucket of_dropping (at name)
-causes n at count (command.Put b key tags hold class body) = in_bucket (of_put hold) (at b)
-causes n at count (command.Marker b key) = in_bucket of_marker (at b)
-causes n at count (command.Remove b key id) = in_bucket (of_removal key id) (at b)
-causes n at count (command.SetTags b key id tags) = in_bucket (of_tags key id) (at b)
-causes n at count (command.SetHold b key id hold) = in_bucket (of_hold key id) (at b)
+-- the causes behind that of a region that isn't there, where there are n
+abbrev pub in_region : ℕ → ℕ → List Cause → List Cause
+in_region n r more = (nat_le n r, refusals.NoSuchRegion r) ∷ more
+
+-- a number that isn't above the last that was received
+abbrev pub of_receipt : ℕ → ℕ → List Cause
+of_receipt number last = (nat_le number last, refusals.NotNext last) ∷ []
+
+-- a number that isn't that of the first pending task
+abbrev pub of_task : ℕ → ℕ → List Cause
+of_task number next = (not (number == next), refusals.NotFirst next) ∷ []
+
+-- why a command may be refused, in order, where there are n regions and its own tells this
+abbrev pub causes : ℕ → RegionView → Command → List Cause
+causes n view (command.CreateBucket name locked) = of_creation (view.bucket name) view.count
+causes n view (command.DeleteBucket name) = in_bucket of_deletion (view.bucket name)
+causes n view (command.SetVersioning name enabled) = in_bucket (of_switch enabled) (view.bucket name)
+causes n view (command.SetReplication name config regions) =
+    unless_beyond (in_bucket of_configuration (view.bucket name)) (beyond n regions)
+causes n view (command.DropReplication name) = in_bucket of_dropping (view.bucket name)
+causes n view (command.Put b key tags hold class body) = in_bucket (of_put hold) (view.bucket b)
+causes n view (command.Marker b key) = in_bucket of_marker (view.bucket b)
+causes n view (command.Remove b key id) = in_bucket (of_removal key id) (view.bucket b)
+causes n view (command.SetTags b key id tags) = in_bucket (of_tags key id) (view.bucket b)
+causes n view (command.SetHold b key id hold) = in_bucket (of_hold key id) (view.bucket b)
+causes n view (command.Receive from number effect) = in_region n from (of_receipt number (view.last from))
+causes n view (command.Settle to number outcome) = in_region n to (of_task number (view.next to))
+causes n view (command.Attempt to number) = in_region n to (of_task number (view.next to))
 
 -- how the command is refused after the history h of region r, of n regions; None where it is accepted
 abbrev pub refusal : (n r : ℕ) → History → Command → Option Refusal
-refusal n r h c = first_of_causes (causes n (told r h) (length (names h)) c)
+refusal n r h c = first_of_causes (causes n (view r h) c)
 
 -- each command meets its fields' rules and is accepted by the history before it
 abbrev pub IsLawful : (n r : ℕ) → History → Type 0

@@ -1,31 +1,50 @@
 -- What commands did.
 use Rattle.std.specs.Prelude.{ℕ, max, List, [], ◌∷◌, Option}
+use Rattle.s3r_names.specs.declared.outcome.Outcome.{Outcome}
 use Rattle.s3r_names.specs.declared.stamp.Stamp.{Stamp}
 use Rattle.s3r_versions.specs.declared.row.Row.{Row}
 use Rattle.s3r_record.specs.declared.command.Command.{Command}
 use Rattle.s3r_record.specs.declared.command.Command.TheVariants as command
+use Rattle.s3r_record.specs.declared.effect.Effect.{Effect}
+use Rattle.s3r_record.specs.declared.effect.Effect.TheVariants as effects
+use Rattle.s3r_history.specs.declared.sent.Sent.{Sent}
 use Rattle.s3r_history.specs.Words.{Name}
 
 -- a row as it stands in the definitions, with its body's bytes
 abbrev pub Entry : Type 0
 Entry = Row (List ℕ)
 
+-- an effect with its body's bytes
+abbrev pub Carried : Type 0
+Carried = Effect (List ℕ)
+
 -- a row as a command added it, and the bucket that it was added to
 pub record Added : Type 0 where
   pub bucket : Name
   pub row : Entry
 
--- What a command did: its stamp where it writes, and what it added. Each is decided by the deeds before it.
+-- What a command did: its stamp where it writes, what its effect came to where it received one (of another command
+-- Applied), what it added, and what it prescribed. Each is decided by the deeds before it.
 pub record Deed : Type 0 where
   pub command : Command
   pub stamp : Stamp
+  pub outcome : Outcome
   pub adds : Option Added
+  pub sends : List Sent
 
 -- what the commands of a history did, the newest first
 abbrev pub Past : Type 0
 Past = List Deed
 
--- the greatest n that a command has: that of its stamp where it writes under one
+-- the greatest n that an effect carries
+abbrev pub carried_n : Carried → ℕ
+carried_n (effects.Replica from to key id n tags tags_stamp hold hold_stamp class body) = max n (max tags_stamp.n hold_stamp.n)
+carried_n (effects.Marker from to key id n) = n
+carried_n (effects.Tags from to key id tags stamp) = stamp.n
+carried_n (effects.Hold from to key id hold stamp) = stamp.n
+
+-- The greatest n that a command has or carries: that of its stamp where it writes under one, and what a received effect
+-- carries, also where it was refused.
 abbrev pub n_of : Command → Stamp → ℕ
 n_of (command.CreateBucket name locked) stamp = 0
 n_of (command.DeleteBucket name) stamp = 0
@@ -37,8 +56,11 @@ n_of (command.Marker bucket key) stamp = stamp.n
 n_of (command.Remove bucket key id) stamp = 0
 n_of (command.SetTags bucket key id tags) stamp = stamp.n
 n_of (command.SetHold bucket key id hold) stamp = stamp.n
+n_of (command.Receive from number effect) stamp = carried_n effect
+n_of (command.Settle to number outcome) stamp = 0
+n_of (command.Attempt to number) stamp = 0
 
--- the greatest n that the commands have, 0 where they have none
+-- the greatest n that the commands have or carry, 0 where there are none
 abbrev pub clock : Past → ℕ
 clock [] = 0
 clock (d ∷ past) = max (n_of d.command d.stamp) (clock past)

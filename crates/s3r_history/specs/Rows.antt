@@ -3,18 +3,21 @@ use Rattle.std.specs.Prelude.{Bool, false, not, ◌&&◌, List, [], ◌∷◌, �
 use Rattle.std.specs.List.{list_any, cons_option}
 use Rattle.std.specs.Str.{bytes_eq}
 use Rattle.s3r_names.specs.Stamp.{is_before}
+use Rattle.s3r_names.specs.declared.outcome.Outcome.{Outcome}
 use Rattle.s3r_names.specs.declared.stamp.Stamp.{Stamp}
 use Rattle.s3r_names.specs.declared.tags.Tag.{Tag}
 use Rattle.s3r_names.specs.declared.version.VersionId.{VersionId}
 use Rattle.s3r_record.specs.declared.command.Command.{Command}
 use Rattle.s3r_record.specs.declared.command.Command.TheVariants as command
+use Rattle.s3r_record.specs.declared.effect.Effect.TheVariants as effects
 use Rattle.s3r_versions.specs.Lookup as lookup
 use Rattle.s3r_versions.specs.Lookup.{id_eq}
 use Rattle.s3r_versions.specs.Contents.{with_row}
 use Rattle.s3r_versions.specs.Removed.{with_id}
 use Rattle.s3r_history.specs.Words.{Name, newer_than}
 use Rattle.s3r_history.specs.Buckets.{creates}
-use Rattle.s3r_history.specs.Past.{Entry, Added, Deed, Past}
+use Rattle.s3r_history.specs.Past.{Entry, Carried, Added, Deed, Past}
+use Rattle.s3r_history.specs.Carried.{is_applied}
 
 -- the command's bucket, key and id are those of the version k, i of the bucket b
 abbrev pub names_it : Name → Name → VersionId → Name → Name → VersionId → Bool
@@ -32,6 +35,9 @@ removes b k i (command.Marker bucket key) = false
 removes b k i (command.Remove bucket key id) = names_it bucket key id b k i
 removes b k i (command.SetTags bucket key id tags) = false
 removes b k i (command.SetHold bucket key id hold) = false
+removes b k i (command.Receive from number effect) = false
+removes b k i (command.Settle to number outcome) = false
+removes b k i (command.Attempt to number) = false
 
 -- what is added to the bucket, and not removed later
 abbrev pub added_to : Name → List Command → Option Added → List Entry
@@ -56,30 +62,58 @@ abbrev pub adds_it : Name → Name → VersionId → Option Added → Bool
 adds_it b k i None = false
 adds_it b k i (Some a) = names_it a.bucket a.row.key a.row.id b k i
 
--- what a command writes about the tags of a version that is there, and about its hold
-abbrev pub tag_write : Name → Name → VersionId → Stamp → Command → Option (Stamp × List Tag)
-tag_write b k i stamp (command.CreateBucket name locked) = None
-tag_write b k i stamp (command.DeleteBucket name) = None
-tag_write b k i stamp (command.SetVersioning name enabled) = None
-tag_write b k i stamp (command.SetReplication name config regions) = None
-tag_write b k i stamp (command.DropReplication name) = None
-tag_write b k i stamp (command.Put bucket key tags hold class body) = None
-tag_write b k i stamp (command.Marker bucket key) = None
-tag_write b k i stamp (command.Remove bucket key id) = None
-tag_write b k i stamp (command.SetTags bucket key id tags) = if names_it bucket key id b k i then Some (stamp, tags) else None
-tag_write b k i stamp (command.SetHold bucket key id hold) = None
+-- what an effect changes of the tags of a version that is there, and of its hold
+abbrev pub tags_brought : Name → Name → VersionId → Carried → Option (Stamp × List Tag)
+tags_brought b k i (effects.Replica from to key id n tags tags_stamp hold hold_stamp class body) =
+    if names_it to key id b k i then Some (tags_stamp, tags) else None
+tags_brought b k i (effects.Marker from to key id n) = None
+tags_brought b k i (effects.Tags from to key id tags stamp) = if names_it to key id b k i then Some (stamp, tags) else None
+tags_brought b k i (effects.Hold from to key id hold stamp) = None
 
-abbrev pub hold_write : Name → Name → VersionId → Stamp → Command → Option (Stamp × Bool)
-hold_write b k i stamp (command.CreateBucket name locked) = None
-hold_write b k i stamp (command.DeleteBucket name) = None
-hold_write b k i stamp (command.SetVersioning name enabled) = None
-hold_write b k i stamp (command.SetReplication name config regions) = None
-hold_write b k i stamp (command.DropReplication name) = None
-hold_write b k i stamp (command.Put bucket key tags hold class body) = None
-hold_write b k i stamp (command.Marker bucket key) = None
-hold_write b k i stamp (command.Remove bucket key id) = None
-hold_write b k i stamp (command.SetTags bucket key id tags) = None
-hold_write b k i stamp (command.SetHold bucket key id hold) = if names_it bucket key id b k i then Some (stamp, hold) else None
+abbrev pub hold_brought : Name → Name → VersionId → Carried → Option (Stamp × Bool)
+hold_brought b k i (effects.Replica from to key id n tags tags_stamp hold hold_stamp class body) =
+    if names_it to key id b k i then Some (hold_stamp, hold) else None
+hold_brought b k i (effects.Marker from to key id n) = None
+hold_brought b k i (effects.Tags from to key id tags stamp) = None
+hold_brought b k i (effects.Hold from to key id hold stamp) = if names_it to key id b k i then Some (stamp, hold) else None
+
+-- what a command changes of the tags of a version that is there, and of its hold; a received effect came to that
+abbrev pub tags_changed : Name → Name → VersionId → Stamp → Outcome → Command → Option (Stamp × List Tag)
+tags_changed b k i stamp came_to (command.CreateBucket name locked) = None
+tags_changed b k i stamp came_to (command.DeleteBucket name) = None
+tags_changed b k i stamp came_to (command.SetVersioning name enabled) = None
+tags_changed b k i stamp came_to (command.SetReplication name config regions) = None
+tags_changed b k i stamp came_to (command.DropReplication name) = None
+tags_changed b k i stamp came_to (command.Put bucket key tags hold class body) = None
+tags_changed b k i stamp came_to (command.Marker bucket key) = None
+tags_changed b k i stamp came_to (command.Remove bucket key id) = None
+tags_changed b k i stamp came_to (command.SetTags bucket key id tags) = if names_it bucket key id b k i then Some (stamp, tags) else None
+tags_changed b k i stamp came_to (command.SetHold bucket key id hold) = None
+tags_changed b k i stamp came_to (command.Receive from number effect) = if is_applied came_to then tags_brought b k i effect else None
+tags_changed b k i stamp came_to (command.Settle to number outcome) = None
+tags_changed b k i stamp came_to (command.Attempt to number) = None
+
+abbrev pub hold_changed : Name → Name → VersionId → Stamp → Outcome → Command → Option (Stamp × Bool)
+hold_changed b k i stamp came_to (command.CreateBucket name locked) = None
+hold_changed b k i stamp came_to (command.DeleteBucket name) = None
+hold_changed b k i stamp came_to (command.SetVersioning name enabled) = None
+hold_changed b k i stamp came_to (command.SetReplication name config regions) = None
+hold_changed b k i stamp came_to (command.DropReplication name) = None
+hold_changed b k i stamp came_to (command.Put bucket key tags hold class body) = None
+hold_changed b k i stamp came_to (command.Marker bucket key) = None
+hold_changed b k i stamp came_to (command.Remove bucket key id) = None
+hold_changed b k i stamp came_to (command.SetTags bucket key id tags) = None
+hold_changed b k i stamp came_to (command.SetHold bucket key id hold) = if names_it bucket key id b k i then Some (stamp, hold) else None
+hold_changed b k i stamp came_to (command.Receive from number effect) = if is_applied came_to then hold_brought b k i effect else None
+hold_changed b k i stamp came_to (command.Settle to number outcome) = None
+hold_changed b k i stamp came_to (command.Attempt to number) = None
+
+-- what a deed writes about the tags of a version that is there, and about its hold
+abbrev pub tag_write : Name → Name → VersionId → Deed → Option (Stamp × List Tag)
+tag_write b k i d = tags_changed b k i d.stamp d.outcome d.command
+
+abbrev pub hold_write : Name → Name → VersionId → Deed → Option (Stamp × Bool)
+hold_write b k i d = hold_changed b k i d.stamp d.outcome d.command
 
 -- what was written about a version since the deed that added it, the newest first
 abbrev pub writes : {X : Type 0} → (Deed → Option X) → (Option Added → Bool) → Past → List X
@@ -95,10 +129,10 @@ greatest first [] = first
 greatest first (w ∷ ws) = newer_of w (greatest first ws)
 
 abbrev pub tags_of : Past → Name → Entry → Stamp × List Tag
-tags_of past b v = greatest (v.tags_stamp, v.tags) (writes (λ (d : Deed). tag_write b v.key v.id d.stamp d.command) (adds_it b v.key v.id) past)
+tags_of past b v = greatest (v.tags_stamp, v.tags) (writes (tag_write b v.key v.id) (adds_it b v.key v.id) past)
 
 abbrev pub hold_of : Past → Name → Entry → Stamp × Bool
-hold_of past b v = greatest (v.hold_stamp, v.hold) (writes (λ (d : Deed). hold_write b v.key v.id d.stamp d.command) (adds_it b v.key v.id) past)
+hold_of past b v = greatest (v.hold_stamp, v.hold) (writes (hold_write b v.key v.id) (adds_it b v.key v.id) past)
 
 abbrev pub set_to : Entry → Stamp × List Tag → Stamp × Bool → Entry
 set_to v t h = record v { tags = t.1; tags_stamp = t.0; hold = h.1; hold_stamp = h.0 }
@@ -134,6 +168,9 @@ removed_id b (command.Marker bucket key) = None
 removed_id b (command.Remove bucket key id) = if bytes_eq bucket b then Some id else None
 removed_id b (command.SetTags bucket key id tags) = None
 removed_id b (command.SetHold bucket key id hold) = None
+removed_id b (command.Receive from number effect) = None
+removed_id b (command.Settle to number outcome) = None
+removed_id b (command.Attempt to number) = None
 
 abbrev pub with_removed : Option VersionId → List VersionId → List VersionId
 with_removed None ids = ids

@@ -1,10 +1,13 @@
-//! What a region's history of commands means: its buckets and their rows, and which commands it accepts.
+//! What a region's history of commands means: its buckets and their rows, what it sends to others and receives, and which
+//! commands it accepts.
 #![tactic(auto)]
 
 mod laws;
 mod refusal;
 mod replication;
+mod sent;
 
-pub use laws::{buckets_are_counted, rows_are_listed};
+pub use laws::{agreeing_is_within, agreement_is_kept, buckets_are_counted, rows_are_listed};
 pub use refusal::Refusal;
 pub use replication::Replication;
+pub use sent::{Prescribed, Sent};

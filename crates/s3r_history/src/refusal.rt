@@ -3,7 +3,8 @@
 use s3r_rules::Kind;
 
 /// Why a command, or the request that asks for it, is refused. No command is refused for `NoSuchKey`, `InvalidLocation`
-/// and `InvalidRequest`: they are a desk's answers. No desk answers `NoSuchRegion`.
+/// and `InvalidRequest`: they are a desk's answers. No desk answers `NoSuchRegion`, `NotNext` or `NotFirst`: they never
+/// leave it.
 #[derive(Clone, Copy, Debug, PartialEq, Eq)]
 pub enum Refusal {
     /// The region has no bucket of this name.
@@ -34,4 +35,8 @@ pub enum Refusal {
     InvalidRequest { rule: u32, kind: Kind },
     /// There are fewer regions.
     NoSuchRegion { region: u8 },
+    /// The last number that was received from the region is this one, and the command's isn't above it.
+    NotNext { watermark: u64 },
+    /// The first pending task to the region has this number, 0 where none is pending, and the command's isn't it.
+    NotFirst { first: u64 },
 }

@@ -18,13 +18,16 @@ abbrev pub field_line : Field → List ℕ
 field_line field = line (field.name ++ codes ": " ++ field.value)
 
 -- the length of the body, but for an answer that has none by its status
-unfoldable pub length_line : ℕ → List ℕ → List ℕ
-length_line status body = if status == 204 then [] else line (codes "Content-Length: " ++ decimal (length body))
+unfoldable pub length_line : ℕ → ℕ → List ℕ
+length_line status length = if status == 204 then [] else line (codes "Content-Length: " ++ decimal length)
 
 unfoldable pub last_line : Bool → List ℕ
 last_line last = if last then line (codes "Connection: close") else []
 
--- an answer: its status, its lines, an empty line, and the body where the request wasn't HEAD
+-- what stands before a body of this length: the status, its lines, and an empty line
+abbrev pub head_text : ℕ → List Field → ℕ → Bool → List ℕ
+head_text status fields length last = status_line status ++ length_line status length ++ flat_map field_line fields ++ last_line last ++ line []
+
+-- an answer: its head, and the body where the request wasn't HEAD
 abbrev pub response_text : ℕ → List Field → List ℕ → Bool → Bool → List ℕ
-response_text status fields body head last = status_line status ++ length_line status body ++ flat_map field_line fields ++ last_line last ++ line []
-    ++ (if head then [] else body)
+response_text status fields body head last = head_text status fields (length body) last ++ (if head then [] else body)

@@ -1,5 +1,6 @@
 // The bytes of a connection that were taken and belong to no request yet.
 ghost use Rattle.std.specs.Prelude.{◌≡◌, ℕ, ◌+◌, ◌<◌, ◌≤◌, true, false, IsTrue, [], ◌++◌, length, take, drop, vec_len, IfOk, OnErr, IsErrOf, OnOk};
+ghost use Rattle.s3r_world.specs.declared.world.Side.TheVariants as side;
 ghost use Rattle.s3r_world.specs.Outside.{KeepsShape, NoneFalls, Rises};
 ghost use Rattle.s3r_http.specs.Input.{ReadsOn};
 
@@ -60,7 +61,7 @@ fn append_piece<W: World>(bytes: &mut Vec<u8>, world: &mut W) -> Result<usize, R
     ensures over { IsTrue W.tells → IfOk result (λ k. k ≡ 0 → (W.outside world.old).input ≡ []) }
     ensures kept { take (vec_len bytes.old) bytes.new.items ≡ bytes.old.items }
     ensures err { OnErr result (bytes.new.items ≡ bytes.old.items) }
-    ensures fault { IsErrOf result ReadFault.Input → Rises 1 (W.faults world.old).input (W.faults world.new).input }
+    ensures fault { IsErrOf result ReadFault.Input → Rises 1 side.Input (W.faults world.old) (W.faults world.new) }
     ensures counts { NoneFalls (W.faults world.old) (W.faults world.new) }
     ensures goes { W.goes world.old world.new }
     ensures shape { KeepsShape (W.shape world.old) (W.shape world.new) }
@@ -117,7 +118,7 @@ impl Buffer {
         ensures more { IfOk result (λ b. b ≡ true → length self.old < length self.new) }
         ensures over { IsTrue W.tells → IfOk result (λ b. b ≡ false → ((W.outside world.old).input ≡ []) × (self.new ≡ self.old)) }
         ensures err { OnErr result (self.new ≡ self.old) }
-        ensures fault { IsErrOf result ReadFault.Input → Rises 1 (W.faults world.old).input (W.faults world.new).input }
+        ensures fault { IsErrOf result ReadFault.Input → Rises 1 side.Input (W.faults world.old) (W.faults world.new) }
         ensures counts { NoneFalls (W.faults world.old) (W.faults world.new) }
         ensures goes { W.goes world.old world.new }
         ensures shape { KeepsShape (W.shape world.old) (W.shape world.new) }

@@ -1,5 +1,6 @@
 // The head of a request: all bytes up to the end of the first empty line.
 ghost use Rattle.std.specs.Prelude.{◌≡◌, ℕ, ◌≤◌, ◌<◌, Some, None, IsTrue, ◌++◌, length, IfSome, IfNone, IfOk, OnErr, IsErrOf};
+ghost use Rattle.s3r_world.specs.declared.world.Side.TheVariants as side;
 ghost use Rattle.s3r_world.specs.Outside.{KeepsShape, NoneFalls, Rises};
 ghost use Rattle.s3r_http.specs.Input.{ReadsOn};
 ghost use Rattle.s3r_http.specs.Head.{head_length, NoneBefore, HeadIs};
@@ -55,7 +56,7 @@ pub fn read_head<W: World>(world: &mut W, buffer: &mut Buffer) -> Result<Head, R
     ensures head { IsTrue W.tells → IfOk result (λ h. HeadIs h (buffer.new ++ (W.outside world.new).input)) }
     ensures taken { (n : ℕ) → IfOk result (λ h. h ≡ Head.Found n → n ≤ length buffer.new) }
     ensures waiting { OnErr result (head_length buffer.new ≡ None) }
-    ensures fault { IsErrOf result ReadFault.Input → Rises 1 (W.faults world.old).input (W.faults world.new).input }
+    ensures fault { IsErrOf result ReadFault.Input → Rises 1 side.Input (W.faults world.old) (W.faults world.new) }
     ensures counts { NoneFalls (W.faults world.old) (W.faults world.new) }
     ensures goes { W.goes world.old world.new }
     ensures shape { KeepsShape (W.shape world.old) (W.shape world.new) }

@@ -14,4 +14,4 @@ pub use buffer::Buffer;
 pub use laws::{one_cause, one_request, some_text};
 pub use message::{Field, Fields, HttpFault, RawRequest};
 pub use reading::{has_more, read_request};
-pub use response::print_response;
+pub use response::{print_head, print_response};

@@ -1,5 +1,6 @@
 //! A request, read from the input.
 ghost use Rattle.std.specs.Prelude.{◌≡◌, ◌≢◌, ◌++◌, ◌≤◌, ◌<◌, ◌⊎◌, ℕ, List, [], true, false, map, length, take, drop, IsTrue, MatchBool, IfOk, IfSome, IfErr, IsErrOf, OnErr};
+ghost use Rattle.s3r_world.specs.declared.world.Side.TheVariants as side;
 ghost use Rattle.s3r_world.specs.Outside.{KeepsShape, KeepsVolumes, NoneFalls, Rises};
 ghost use Rattle.s3r_http.specs.Input.{ReadsOn};
 ghost use Rattle.s3r_http.specs.Lines.{line_of};
@@ -66,7 +67,7 @@ fn fill_to<W: World>(world: &mut W, buffer: &mut Buffer, count: usize) -> Result
     ensures enough { IfOk result (λ b. b ≡ true → count ≤ length buffer.new) }
     ensures short { IsTrue W.tells → IfOk result (λ b. b ≡ false → length (buffer.new ++ (W.outside world.new).input) < count) }
     ensures waiting { OnErr result (length buffer.new < count) }
-    ensures fault { IsErrOf result ReadFault.Input → Rises 1 (W.faults world.old).input (W.faults world.new).input }
+    ensures fault { IsErrOf result ReadFault.Input → Rises 1 side.Input (W.faults world.old) (W.faults world.new) }
     ensures counts { NoneFalls (W.faults world.old) (W.faults world.new) }
     ensures goes { W.goes world.old world.new }
     ensures shape { KeepsShape (W.shape world.old) (W.shape world.new) }
@@ -102,7 +103,7 @@ pub fn has_more<W: World>(world: &mut W, buffer: &mut Buffer) -> Result<bool, Ht
     ensures held { buffer.old ≢ [] → (buffer.new ≡ buffer.old) × (world.new ≡ world.old) }
     ensures connections { IsTrue W.tells → (W.outside world.new).connections ≡ (W.outside world.old).connections }
     ensures volumes { IsTrue W.tells → KeepsVolumes (W.outside world.old) (W.outside world.new) }
-    ensures fault { IsErrOf result HttpFault.Input → Rises 1 (W.faults world.old).input (W.faults world.new).input }
+    ensures fault { IsErrOf result HttpFault.Input → Rises 1 side.Input (W.faults world.old) (W.faults world.new) }
     ensures counts { NoneFalls (W.faults world.old) (W.faults world.new) }
     ensures goes { W.goes world.old world.new }
     ensures shape { KeepsShape (W.shape world.old) (W.shape world.new) }
@@ -134,7 +135,7 @@ pub fn read_request<W: World>(
 
     ensures connections { IsTrue W.tells → (W.outside world.new).connections ≡ (W.outside world.old).connections }
     ensures volumes { IsTrue W.tells → KeepsVolumes (W.outside world.old) (W.outside world.new) }
-    ensures fault { IsErrOf result HttpFault.Input → Rises 1 (W.faults world.old).input (W.faults world.new).input }
+    ensures fault { IsErrOf result HttpFault.Input → Rises 1 side.Input (W.faults world.old) (W.faults world.new) }
     ensures counts { NoneFalls (W.faults world.old) (W.faults world.new) }
     ensures goes { W.goes world.old world.new }
     ensures shape { KeepsShape (W.shape world.old) (W.shape world.new) }

@@ -1,7 +1,7 @@
 //! An answer, printed.
 ghost use Rattle.std.specs.Prelude.{◌≡◌, ◌++◌, [], unwrap_or, if◌then◌else◌, IfOk, OnOk, flat_map};
 ghost use Rattle.http.specs.StatusCode.{reason_phrase};
-ghost use Rattle.s3r_http.specs.Response.{line, code_text, status_line, field_line, length_line, last_line, response_text};
+ghost use Rattle.s3r_http.specs.Response.{line, code_text, status_line, field_line, length_line, last_line, head_text, response_text};
 
 use crate::message::Field;
 use http::StatusCode;
@@ -45,14 +45,13 @@ fn push_length(
     alloc: Global,
     out: &mut Vec<u8>,
     status: StatusCode,
-    body: &[u8],
+    length: usize,
 ) -> Result<(), AllocError>
-    ensures { OnOk result (out.new.items ≡ out.old.items ++ length_line status body.now) }
+    ensures { OnOk result (out.new.items ≡ out.old.items ++ length_line status length) }
 {
     if status.as_u16() == 204 {
         return Ok(());
     }
-    let length = body.len();
     let text = format!(in alloc; "Content-Length: {length}")?;
     push_line(out, text.as_bytes())
 }
@@ -93,9 +92,28 @@ fn push_body(out: &mut Vec<u8>, body: &[u8], head: bool) -> Result<(), AllocErro
     out.extend_from_slice(body)
 }
 
-/// The text of an answer (RFC 9112, section 4): the status line with the status's phrase, `Content-Length` (not with
-/// 204), these lines in order, `Connection: close` on a last answer, an empty line, and the body. The answer to a HEAD
-/// request has the lines and no body.
+/// The head of an answer (RFC 9112, section 4) with a body of this length: the status line with the status's phrase,
+/// `Content-Length` (not with 204), these lines in order, `Connection: close` on a last answer, and an empty line. It is
+/// the whole answer to a HEAD request.
+pub fn print_head(
+    alloc: Global,
+    status: StatusCode,
+    fields: &[Field],
+    length: usize,
+    last: bool,
+) -> Result<Vec<u8>, AllocError>
+    ensures { IfOk result (λ text. text.items ≡ head_text status fields.now length last) }
+{
+    let mut out = Vec::new(alloc);
+    push_status(&mut out, status)?;
+    push_length(alloc, &mut out, status, length)?;
+    push_fields(&mut out, fields)?;
+    push_last(&mut out, last)?;
+    push_line(&mut out, b"")?;
+    Ok(out)
+}
+
+/// The text of an answer: its head, and its body. The answer to a HEAD request has no body.
 pub fn print_response(
     alloc: Global,
     status: StatusCode,
@@ -106,12 +124,7 @@ pub fn print_response(
 ) -> Result<Vec<u8>, AllocError>
     ensures { IfOk result (λ text. text.items ≡ response_text status fields.now body.now head last) }
 {
-    let mut out = Vec::new(alloc);
-    push_status(&mut out, status)?;
-    push_length(alloc, &mut out, status, body)?;
-    push_fields(&mut out, fields)?;
-    push_last(&mut out, last)?;
-    push_line(&mut out, b"")?;
+    let mut out = print_head(alloc, status, fields, body.len(), last)?;
     push_body(&mut out, body, head)?;
     Ok(out)
 }

@@ -2,6 +2,7 @@
 use Rattle.std.specs.Prelude.{◌≡◌, ◌⊎◌, ◌==◌, ℕ, ◌+◌, ◌&&◌, if◌then◌else◌, nat_le, ◌≤◌, List, [], ◌∷◌, ◌++◌, length, take, drop, Result, Ok, Err, IfOk}
 use Rattle.std.specs.Int.{from_be_bytes, w32}
 use Rattle.std.specs.Str.{bytes_eq}
+use Rattle.s3r_world.specs.declared.world.Side.TheVariants as side
 use Rattle.s3r_world.specs.Outside.{Outside, Looks, IsStable, Counts, Rises}
 use Rattle.s3r_journal.specs.declared.scanning.Scanned.{Scanned}
 use Rattle.s3r_journal.specs.declared.scanning.Scanned.TheVariants.{Empty, End, Record}
@@ -73,13 +74,13 @@ pub record Scans (v region from : ℕ) (result : Result Scanned ScanFault) (old 
 
 -- a fault of the volume was counted, and damage is told of that volume
 abbrev pub HasCause : ℕ → ScanFault → Counts → Counts → Type 0
-HasCause v (Volume u) old new = (u ≡ v) × Rises 1 (old.volume v) (new.volume v)
+HasCause v (Volume u) old new = (u ≡ v) × Rises 1 (side.Volume v) old new
 HasCause v (Damaged u at) old new = u ≡ v
 HasCause v OutOfMemory old new = Unit {0}
 
 -- a fault of the volume was counted, or there was no memory
 abbrev pub HasFailed : ℕ → ScanFault → Counts → Counts → Type 0
-HasFailed v (Volume u) old new = (u ≡ v) × Rises 1 (old.volume v) (new.volume v)
+HasFailed v (Volume u) old new = (u ≡ v) × Rises 1 (side.Volume v) old new
 HasFailed v (Damaged u at) old new = ⊥
 HasFailed v OutOfMemory old new = Unit {0}
 

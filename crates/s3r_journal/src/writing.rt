@@ -1,5 +1,6 @@
 // Records behind a closed gate, which is opened last.
 ghost use Rattle.std.specs.Prelude.{◌≡◌, ◌⊎◌, ◌↔◌, ◌+◌, ◌<◌, ◌≤◌, ◌∷◌, [], IsTrue, length, is_ok, IfOk, IfErr, IsErrOf};
+ghost use Rattle.s3r_world.specs.declared.world.Side.TheVariants as side;
 ghost use Rattle.s3r_world.specs.Outside.{KeepsShape, VolumeCause, NoneFalls, Rises};
 ghost use Rattle.s3r_journal.specs.Volume.{IsFrame, spelling_of};
 ghost use Rattle.s3r_journal.specs.Step.{WritesThrough, IsReady, IsVacant, Changed};
@@ -99,7 +100,7 @@ pub fn append<W: World>(world: &mut W, v: u32, end: u64, frame: &[u8]) -> Result
     ensures full { IsErrOf result (AppendFault.VolumeFull v) ↔ ((W.shape world.old).room v < end + 1 + length frame.now) }
     ensures full_unchanged { IsErrOf result (AppendFault.VolumeFull v) → world.new ≡ world.old }
     ensures fault { IfErr result (λ e. (e ≡ AppendFault.VolumeFull v) ⊎ ((e ≡ AppendFault.Volume v)
-        × Rises 1 ((W.faults world.old).volume v) ((W.faults world.new).volume v))) }
+        × Rises 1 (side.Volume v) (W.faults world.old) (W.faults world.new))) }
     ensures counts { NoneFalls (W.faults world.old) (W.faults world.new) }
     ensures goes { W.goes world.old world.new }
     ensures shape { KeepsShape (W.shape world.old) (W.shape world.new) }

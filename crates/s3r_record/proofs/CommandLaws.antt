@@ -15,6 +15,7 @@ use Rattle.s3r_record.proofs.BucketLaws.{create_bucket_takes, create_bucket_agai
 use Rattle.s3r_record.proofs.ReplicationLaws.{set_replication_takes, set_replication_again, drop_replication_takes, drop_replication_again}
 use Rattle.s3r_record.proofs.Ruled.{Ruled, ruled_is}
 use Rattle.s3r_record.proofs.VersionLaws.{put_takes, put_again, marker_takes, marker_again, remove_takes, remove_again, set_tags_takes, set_tags_again, set_hold_takes, set_hold_again}
+use Rattle.s3r_record.proofs.TaskLaws.{receive_takes, receive_again, settle_takes, settle_again, attempt_takes, attempt_again}
 
 fields_take : (kind : ℕ) → TakesBehind spelling Ruled (kind ∷ []) (fields_at kind)
 unfolding fields_at
@@ -29,7 +30,10 @@ fields_take kind =
     take_chosen 8 kind remove_takes (
     take_chosen 9 kind set_tags_takes (
     take_chosen 10 kind set_hold_takes (
-    take_none 0))))))))))
+    take_chosen 11 kind receive_takes (
+    take_chosen 12 kind settle_takes (
+    take_chosen 13 kind attempt_takes (
+    take_none 0)))))))))))))
 
 -- what is read is spelled so
 pub command_takes : (bytes : List ℕ) (c : Command) → IsBytes bytes → command_at bytes ≡ Ok c → Ruled c × (bytes ≡ spelling c)
@@ -81,6 +85,9 @@ reads_again (command.Marker bucket key) fits = is_read 7 (command.Marker bucket 
 reads_again (command.Remove bucket key id) fits = is_read 8 (command.Remove bucket key id) (remove_again bucket key id fits)
 reads_again (command.SetTags bucket key id tags) fits = is_read 9 (command.SetTags bucket key id tags) (set_tags_again bucket key id tags fits)
 reads_again (command.SetHold bucket key id hold) fits = is_read 10 (command.SetHold bucket key id hold) (set_hold_again bucket key id hold fits)
+reads_again (command.Receive from n effect) fits = is_read 11 (command.Receive from n effect) (receive_again from n effect fits)
+reads_again (command.Settle to n outcome) fits = is_read 12 (command.Settle to n outcome) (settle_again to n outcome fits)
+reads_again (command.Attempt to n) fits = is_read 13 (command.Attempt to n) (attempt_again to n fits)
 
 -- what is spelled so is read
 pub command_again : (c : Command) → IsCommand c → command_at (spelling c) ≡ Ok c

@@ -1,19 +1,28 @@
 -- Spellings of commands, and bytes that are none.
 use Rattle.std.proofs.Common.{◌≡◌, ℕ, true, false, List, [], ◌∷◌, ◌++◌, None, Result, Ok, Err, refl, codes}
 use Rattle.std.specs.Str.{is_utf8, chars}
+use Rattle.s3r_names.specs.declared.outcome.Outcome.TheVariants as outcomes
+use Rattle.s3r_names.specs.declared.outcome.Reason.TheVariants as reasons
+use Rattle.s3r_names.specs.declared.stamp.Stamp.{Stamp}
+use Rattle.s3r_names.specs.declared.version.VersionId.{VersionId}
 use Rattle.s3r_rules.specs.declared.rule.Rule.{Rule}
 use Rattle.s3r_rules.specs.Reading.{rule_from}
 use Rattle.s3r_record.specs.declared.command.Command.{Command}
 use Rattle.s3r_record.specs.declared.command.Command.TheVariants as command
+use Rattle.s3r_record.specs.declared.effect.Effect.{Effect}
+use Rattle.s3r_record.specs.declared.effect.Effect.TheVariants as effects
 use Rattle.s3r_record.specs.Spelling.{spelling, frame}
 use Rattle.s3r_record.specs.Reading.{byte_at, flag_at, sized_at, tested_at}
 use Rattle.s3r_record.specs.ReadingTags.{tag_at, tags_after, tags_at}
 use Rattle.s3r_record.specs.ReadingTexts.{option_text_at}
 use Rattle.s3r_record.specs.ReadingRules.{front_at, back_at, rule_at, rules_after, count_at, rules_at}
 use Rattle.s3r_record.specs.ReplicationCommands.{set_replication_at, drop_replication_at}
-use Rattle.s3r_record.specs.ReadingIds.{region_at, index_at, id_at}
+use Rattle.s3r_record.specs.ReadingIds.{region_at, index_at, id_at, stamp_at}
+use Rattle.s3r_record.specs.ReadingEffects.{effect_front_at, stamped_tags_at, stamped_hold_at, replica_tail_at, replica_at, marker_copy_at, tags_copy_at, hold_copy_at}
+use Rattle.s3r_record.specs.ReadingEffects.{kind_fields_at, effect_at}
 use Rattle.s3r_record.specs.BucketCommands.{create_bucket_at, delete_bucket_at, set_versioning_at}
 use Rattle.s3r_record.specs.VersionCommands.{put_at, marker_at, remove_at, set_tags_at, set_hold_at}
+use Rattle.s3r_record.specs.TaskCommands.{outcome_of, outcome_at, receive_at, settle_at, attempt_at}
 use Rattle.s3r_record.specs.Commands.{fields_at, command_at}
 
 abbrev fault_at : ℕ → Result Command ℕ
@@ -213,3 +222,111 @@ same_rule = refl
 drop_read : command_at (5 ∷ 0 ∷ 3 ∷ 97 ∷ 98 ∷ 99 ∷ []) ≡ Ok (command.DropReplication (codes "abc"))
 unfolding command_at fields_at drop_replication_at tested_at sized_at
 drop_read = refl
+
+-- ---- commands about a task: region 2, number 258
+
+abbrev to_task : ℕ → List ℕ
+to_task kind = kind ∷ 2 ∷ 0 ∷ 0 ∷ 0 ∷ 0 ∷ 0 ∷ 0 ∷ 1 ∷ 2 ∷ []
+
+attempt_spelled : spelling (command.Attempt 2 258) ≡ to_task 13
+attempt_spelled = refl
+
+attempt_read : command_at (to_task 13) ≡ Ok (command.Attempt 2 258)
+unfolding command_at fields_at attempt_at region_at index_at byte_at
+attempt_read = refl
+
+more_than_attempt : command_at (to_task 13 ++ 0 ∷ []) ≡ fault_at 10
+unfolding command_at fields_at attempt_at region_at index_at byte_at
+more_than_attempt = refl
+
+high_sender : command_at (13 ∷ 8 ∷ 0 ∷ 0 ∷ 0 ∷ 0 ∷ 0 ∷ 0 ∷ 0 ∷ 1 ∷ []) ≡ fault_at 1
+unfolding command_at fields_at attempt_at region_at index_at byte_at
+high_sender = refl
+
+no_number : command_at (13 ∷ 2 ∷ 0 ∷ 0 ∷ 0 ∷ 0 ∷ 0 ∷ 0 ∷ 0 ∷ 0 ∷ []) ≡ fault_at 2
+unfolding command_at fields_at attempt_at region_at index_at byte_at
+no_number = refl
+
+settle_spelled : spelling (command.Settle 2 258 (outcomes.Refused reasons.VersionRemoved)) ≡ to_task 12 ++ 3 ∷ []
+settle_spelled = refl
+
+settle_read : command_at (to_task 12 ++ 3 ∷ []) ≡ Ok (command.Settle 2 258 (outcomes.Refused reasons.VersionRemoved))
+unfolding command_at fields_at settle_at outcome_at outcome_of region_at index_at byte_at
+settle_read = refl
+
+other_outcome : command_at (to_task 12 ++ 6 ∷ []) ≡ fault_at 10
+unfolding command_at fields_at settle_at outcome_at outcome_of region_at index_at byte_at
+other_outcome = refl
+
+-- ---- effects: of bucket abc to bucket abd, key a, the id 7 and 258; a stamp of n 3, region 1 and index 2
+
+abbrev id : VersionId
+id = record { region = 7; index = 258 }
+
+abbrev stamp : Stamp
+stamp = record { n = 3; region = 1; index = 2 }
+
+abbrev stamped : List ℕ
+stamped = 0 ∷ 0 ∷ 0 ∷ 0 ∷ 0 ∷ 0 ∷ 0 ∷ 3 ∷ 1 ∷ 0 ∷ 0 ∷ 0 ∷ 0 ∷ 0 ∷ 0 ∷ 0 ∷ 2 ∷ []
+
+abbrev to_kind_fields : ℕ → List ℕ
+to_kind_fields kind = to_task 11 ++ (kind ∷ 0 ∷ 3 ∷ 97 ∷ 98 ∷ 99 ∷ 0 ∷ 3 ∷ 97 ∷ 98 ∷ 100 ∷ 0 ∷ 1 ∷ 97 ∷ []) ++ row_id
+
+abbrev four : List ℕ
+four = 0 ∷ 0 ∷ 0 ∷ 0 ∷ 0 ∷ 0 ∷ 0 ∷ 4 ∷ []
+
+abbrev replica : Effect (List ℕ)
+replica = effects.Replica (codes "abc") (codes "abd") (codes "a") id 4 [] stamp true stamp (codes "STANDARD") (codes "hi")
+
+abbrev to_class : List ℕ
+to_class = to_kind_fields 1 ++ four ++ (0 ∷ []) ++ stamped ++ (1 ∷ []) ++ stamped
+
+abbrev from_class : List ℕ
+from_class = 0 ∷ 8 ∷ 83 ∷ 84 ∷ 65 ∷ 78 ∷ 68 ∷ 65 ∷ 82 ∷ 68 ∷ 0 ∷ 0 ∷ 0 ∷ 2 ∷ 104 ∷ 105 ∷ []
+
+replica_spelled : spelling (command.Receive 2 258 replica) ≡ to_class ++ from_class
+replica_spelled = refl
+
+replica_read : command_at (to_class ++ from_class) ≡ Ok (command.Receive 2 258 replica)
+unfolding command_at fields_at receive_at effect_at kind_fields_at replica_at effect_front_at replica_tail_at stamped_tags_at stamped_hold_at stamp_at
+    id_at region_at index_at tested_at sized_at tags_at tags_after flag_at byte_at is_utf8 chars lib.Utf8.encode
+replica_read = refl
+
+-- a body begins at its length
+cut_copy : command_at (to_class ++ 0 ∷ 1 ∷ 65 ∷ 0 ∷ 0 ∷ 0 ∷ 2 ∷ 104 ∷ []) ≡ fault_at 80
+unfolding command_at fields_at receive_at effect_at kind_fields_at replica_at effect_front_at replica_tail_at stamped_tags_at stamped_hold_at stamp_at
+    id_at region_at index_at tested_at sized_at tags_at tags_after flag_at byte_at is_utf8 chars lib.Utf8.encode
+cut_copy = refl
+
+-- a marker may have any n
+marker_copy_read : command_at (to_kind_fields 2 ++ 0 ∷ 0 ∷ 0 ∷ 0 ∷ 0 ∷ 0 ∷ 0 ∷ 0 ∷ [])
+    ≡ Ok (command.Receive 2 258 (effects.Marker (codes "abc") (codes "abd") (codes "a") id 0))
+unfolding command_at fields_at receive_at effect_at kind_fields_at marker_copy_at effect_front_at id_at region_at index_at tested_at sized_at byte_at
+    is_utf8 chars lib.Utf8.encode
+marker_copy_read = refl
+
+tags_copy_read : command_at (to_kind_fields 3 ++ (1 ∷ 0 ∷ 1 ∷ 98 ∷ 0 ∷ 1 ∷ 99 ∷ []) ++ stamped)
+    ≡ Ok (command.Receive 2 258 (effects.Tags (codes "abc") (codes "abd") (codes "a") id (record { key = codes "b"; value = codes "c" } ∷ []) stamp))
+unfolding command_at fields_at receive_at effect_at kind_fields_at tags_copy_at effect_front_at stamped_tags_at stamp_at id_at region_at index_at
+    tested_at sized_at tags_at tags_after tag_at byte_at is_utf8 chars lib.Utf8.encode
+tags_copy_read = refl
+
+hold_copy_read : command_at (to_kind_fields 4 ++ (0 ∷ []) ++ stamped)
+    ≡ Ok (command.Receive 2 258 (effects.Hold (codes "abc") (codes "abd") (codes "a") id false stamp))
+unfolding command_at fields_at receive_at effect_at kind_fields_at hold_copy_at effect_front_at stamped_hold_at stamp_at id_at region_at index_at
+    tested_at sized_at flag_at byte_at is_utf8 chars lib.Utf8.encode
+hold_copy_read = refl
+
+other_kind : command_at (to_kind_fields 5) ≡ fault_at 10
+unfolding command_at fields_at receive_at effect_at kind_fields_at region_at index_at byte_at
+other_kind = refl
+
+no_stamp_region : command_at (to_kind_fields 4 ++ 0 ∷ four) ≡ fault_at 42
+unfolding command_at fields_at receive_at effect_at kind_fields_at hold_copy_at effect_front_at stamped_hold_at stamp_at id_at region_at index_at
+    tested_at sized_at flag_at byte_at is_utf8 chars lib.Utf8.encode
+no_stamp_region = refl
+
+no_stamp_index : command_at (to_kind_fields 4 ++ 0 ∷ 0 ∷ 0 ∷ 0 ∷ 0 ∷ 0 ∷ 0 ∷ 0 ∷ 3 ∷ 1 ∷ 0 ∷ 0 ∷ 0 ∷ 0 ∷ 0 ∷ 0 ∷ 0 ∷ 0 ∷ []) ≡ fault_at 43
+unfolding command_at fields_at receive_at effect_at kind_fields_at hold_copy_at effect_front_at stamped_hold_at stamp_at id_at region_at index_at
+    tested_at sized_at flag_at byte_at is_utf8 chars lib.Utf8.encode
+no_stamp_index = refl

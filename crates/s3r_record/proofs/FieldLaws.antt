@@ -215,5 +215,7 @@ key_law = short_text_law is_key (λ key named. let s = (key_is key named).short 
 pub class_law : Reads (tested_at w16 is_class_name) text (λ class. is_class_name class ≡ true)
 class_law = short_text_law is_class_name (λ class named. let s = (class_is class named).short in omega arith)
 
-pub body_law : Reads (tested_at w32 is_body) body (λ bytes. is_body bytes ≡ true)
-body_law = short_law w32 (2 ^ 32) wide32 is_body (λ bytes short. let s = leb-true (length bytes) 4194304 short in omega arith)
+pub body_law : (most : ℕ) → most < 2 ^ 32 → Reads (tested_at w32 (is_body most)) body (λ bytes. length bytes ≤ most)
+body_law most low =
+    Reads-as (short_law w32 (2 ^ 32) wide32 (is_body most) (λ bytes short. let s = leb-true (length bytes) most short in omega arith))
+    (λ bytes short. leb-true (length bytes) most short) (λ bytes few. le-leb (length bytes) most few)

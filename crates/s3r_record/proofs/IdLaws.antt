@@ -1,11 +1,12 @@
--- The laws of an id: its region, its index, and both.
+-- The laws of an id and of a stamp: of each number in them, and of all.
 use Rattle.std.proofs.Common.{◌≡◌, ℕ, ◌^◌, ◌<◌, ◌≤◌, cond, nat_le, List, [], ◌∷◌, ◌++◌, Ok, Err, refl, subst}
 use Rattle.std.specs.Int.{w64, to_be_bytes}
 use Rattle.std.proofs.lemmas.Bool.{leb-true, le-leb}
 use Rattle.s3r_names.specs.Version.{IsVersionId}
-use Rattle.s3r_record.specs.Fields.{id_bytes}
-use Rattle.s3r_record.specs.Reading.{Unread, place}
-use Rattle.s3r_record.specs.ReadingIds.{region_at, index_at, id_at}
+use Rattle.s3r_record.specs.Fields.{id_bytes, stamp_bytes}
+use Rattle.s3r_record.specs.Reading.{Unread, place, number_at}
+use Rattle.s3r_record.specs.ReadingIds.{region_at, index_at, id_at, stamp_at}
+use Rattle.s3r_record.specs.Spelling.{IsStamp}
 use Rattle.s3r_record.proofs.ReaderLaws.{IsBytes, guard_passed, Takes, left, Reads, take_field}
 use Rattle.s3r_record.proofs.FieldLaws.{wide64, number_law, byte_law}
 use Rattle.s3r_record.proofs.SeveralFields.{take_then, take_end, again_then, again_end, reads}
@@ -38,3 +39,16 @@ id_law =
     (take_then _ region_law (λ region low. take_then _ index_law (λ index is. take_end (record { region = region; index = index })
     (record { region = low; above = is.0; below = is.1 }))))
     (λ id is. again_then _ region_law id.region is.region (again_then _ index_law id.index (is.above, is.below) (again_end id)))
+
+-- eight bytes
+pub eight_law : Reads (number_at w64) (to_be_bytes w64) (λ n. n < 2 ^ 64)
+eight_law = number_law w64 (2 ^ 64) wide64
+
+pub stamp_law : Reads stamp_at stamp_bytes IsStamp
+unfolding stamp_at
+stamp_law =
+    reads
+    (take_then _ eight_law (λ n wide. take_then _ region_law (λ region low. take_then _ index_law
+    (λ index is. take_end (record { n = n; region = region; index = index }) (record { n = wide; region = low; above = is.0; below = is.1 })))))
+    (λ stamp is. again_then _ eight_law stamp.n is.n (again_then _ region_law stamp.region is.region
+    (again_then _ index_law stamp.index (is.above, is.below) (again_end stamp))))

@@ -10,6 +10,7 @@ use Rattle.s3r_names.specs.Key.{is_key}
 use Rattle.s3r_names.specs.Class.{is_class_name}
 use Rattle.s3r_names.specs.Tags.{is_tag, is_tag_set}
 use Rattle.s3r_names.specs.declared.tags.Tag.{Tag}
+use Rattle.s3r_names.specs.declared.stamp.Stamp.{Stamp}
 use Rattle.s3r_names.specs.declared.version.VersionId.{VersionId}
 use Rattle.s3r_names.proofs.BucketNames.{name_is}
 use Rattle.s3r_names.proofs.Keys.{key_is}
@@ -18,8 +19,11 @@ use Rattle.s3r_names.proofs.TagTexts.{tag_is}
 use Rattle.s3r_rules.specs.declared.rule.Rule.{Rule}
 use Rattle.s3r_record.specs.declared.command.Command.{Command}
 use Rattle.s3r_record.specs.declared.command.Command.TheVariants as command
+use Rattle.s3r_record.specs.declared.effect.Effect.{Effect}
+use Rattle.s3r_record.specs.declared.effect.Effect.TheVariants as effects
 use Rattle.s3r_record.specs.Fields.{text, body, flag, tag_bytes, tags_bytes, id_bytes, rule_bytes, rules_bytes}
-use Rattle.s3r_record.specs.Spelling.{spelling, IsCommand, MeetsLimits, fits_record}
+use Rattle.s3r_record.specs.Fields.{number_bytes, stamp_bytes, outcome_byte, effect_bytes}
+use Rattle.s3r_record.specs.Spelling.{spelling, IsCommand, MeetsLimits, IsEffect, EffectMeetsLimits, fits_record}
 use Rattle.s3r_record.proofs.TagLaws.{set_is}
 
 -- ---- one field
@@ -39,8 +43,8 @@ key_short key named = record { short = omega (arith, length-text key, (key_is ke
 class_short : (class : List ℕ) → is_class_name class ≡ true → IsShort 34 (text class)
 class_short class named = record { short = omega (arith, length-text class, (class_is class named).short) }
 
-body_short : (bytes : List ℕ) → length bytes ≤ 4194304 → IsShort 4194308 (body bytes)
-body_short bytes short = record { short = omega (arith, length-append (to_be_bytes w32 (length bytes)) bytes) }
+body_short : (most : ℕ) (bytes : List ℕ) → length bytes ≤ most → IsShort (4 + most) (body bytes)
+body_short most bytes short = record { short = omega (arith, length-append (to_be_bytes w32 (length bytes)) bytes) }
 
 length-flag : (value : Bool) → length (flag value) ≡ 1
 length-flag true = refl
@@ -54,6 +58,18 @@ length-id_bytes id = refl
 
 id_short : (id : VersionId) → IsShort 9 (id_bytes id)
 id_short id = record { short = omega (arith, length-id_bytes id) }
+
+length-number : (n : ℕ) → length (number_bytes n) ≡ 8
+length-number n = refl
+
+number_short : (n : ℕ) → IsShort 8 (number_bytes n)
+number_short n = record { short = omega (arith, length-number n) }
+
+length-stamp : (stamp : Stamp) → length (stamp_bytes stamp) ≡ 17
+length-stamp stamp = refl
+
+stamp_short : (stamp : Stamp) → IsShort 17 (stamp_bytes stamp)
+stamp_short stamp = record { short = omega (arith, length-stamp stamp) }
 
 length-tag_bytes : (tag : Tag) → is_tag tag ≡ true → length (tag_bytes tag) ≤ 1540
 length-tag_bytes tag ruled =
@@ -80,6 +96,27 @@ tags_short tags ruled = let set = set_is tags ruled in record { short = omega (a
 joined : {a b : List ℕ} {m n : ℕ} → IsShort m a → IsShort n b → IsShort (m + n) (a ++ b)
 joined {a = a} {b = b} first second = record { short = omega (arith, length-append a b, first.short, second.short) }
 
+front_short : (from to key : List ℕ) (id : VersionId) → is_bucket_name from ≡ true → is_bucket_name to ≡ true → is_key key ≡ true
+    → IsShort 1165 (text from ++ text to ++ text key ++ id_bytes id)
+front_short from to key id f t k = joined (joined (joined (bucket_short from f) (bucket_short to t)) (key_short key k)) (id_short id)
+
+within : {limit : ℕ} {fields : List ℕ} (kind : ℕ) → IsShort limit fields → limit < 15600000 → IsShort 15600000 (kind ∷ fields)
+within kind fields below = record { short = omega (arith, fields.short) }
+
+-- a body of at most 15,582,912 bytes leaves room for the fields beside it
+effect_short : (effect : Effect (List ℕ)) → IsEffect effect → IsShort 15600000 (effect_bytes effect)
+effect_short (effects.Replica from to key id n tags tags_stamp hold hold_stamp class bytes) is =
+    within 1 (joined (joined (joined (joined (joined (joined (joined (front_short from to key id is.0 is.1 is.2) (number_short n)) (tags_short tags is.3))
+    (stamp_short tags_stamp)) (flag_short hold)) (stamp_short hold_stamp)) (class_short class is.4)) (body_short 15582912 bytes is.5.4)) (lit< tt)
+effect_short (effects.Marker from to key id n) is = within 2 (joined (front_short from to key id is.0 is.1 is.2) (number_short n)) (lit< tt)
+effect_short (effects.Tags from to key id tags stamp) is =
+    within 3 (joined (joined (front_short from to key id is.0 is.1 is.2) (tags_short tags is.3)) (stamp_short stamp)) (lit< tt)
+effect_short (effects.Hold from to key id hold stamp) is =
+    within 4 (joined (joined (front_short from to key id is.0 is.1 is.2) (flag_short hold)) (stamp_short stamp)) (lit< tt)
+
+one_byte : (byte : ℕ) → IsShort 1 (byte ∷ [])
+one_byte byte = record { short = omega arith }
+
 fits : {limit : ℕ} {fields : List ℕ} (kind : ℕ) → IsShort limit fields → limit < 16777216 → length (kind ∷ fields) ≤ 16777216
 fits kind fields below = omega (arith, fields.short)
 
@@ -91,13 +128,22 @@ spelling_short (command.SetReplication name config regions) is = is.3
 spelling_short (command.DropReplication name) is = fits 5 (bucket_short name is) (lit< tt)
 spelling_short (command.Put bucket key tags hold class bytes) is =
     fits 6 (joined (joined (joined (joined (joined (bucket_short bucket is.0) (key_short key is.1)) (tags_short tags is.2)) (flag_short hold))
-    (class_short class is.3)) (body_short bytes is.4)) (lit< tt)
+    (class_short class is.3)) (body_short 4194304 bytes is.4)) (lit< tt)
 spelling_short (command.Marker bucket key) is = fits 7 (joined (bucket_short bucket is.0) (key_short key is.1)) (lit< tt)
 spelling_short (command.Remove bucket key id) is = fits 8 (joined (joined (bucket_short bucket is.0) (key_short key is.1)) (id_short id)) (lit< tt)
 spelling_short (command.SetTags bucket key id tags) is = fits 9 (joined (joined (joined (bucket_short bucket is.0) (key_short key is.1)) (id_short id))
     (tags_short tags is.3)) (lit< tt)
 spelling_short (command.SetHold bucket key id hold) is = fits 10 (joined (joined (joined (bucket_short bucket is.0) (key_short key is.1)) (id_short id))
     (flag_short hold)) (lit< tt)
+spelling_short (command.Receive from n effect) is = fits 11 (joined (one_byte from) (joined (number_short n) (effect_short effect is.1))) (lit< tt)
+spelling_short (command.Settle to n outcome) is = fits 12 (joined (one_byte to) (joined (number_short n) (one_byte (outcome_byte outcome)))) (lit< tt)
+spelling_short (command.Attempt to n) is = fits 13 (joined (one_byte to) (number_short n)) (lit< tt)
+
+effect_meets : (effect : Effect (List ℕ)) → IsEffect effect → EffectMeetsLimits effect
+effect_meets (effects.Replica from to key id n tags tags_stamp hold hold_stamp class bytes) is = is.5
+effect_meets (effects.Marker from to key id n) is = is.3
+effect_meets (effects.Tags from to key id tags stamp) is = is.4
+effect_meets (effects.Hold from to key id hold stamp) is = is.3
 
 pub meets_limits : (c : Command) → IsCommand c → MeetsLimits c
 meets_limits (command.CreateBucket name locked) is = tt
@@ -110,6 +156,9 @@ meets_limits (command.Marker bucket key) is = tt
 meets_limits (command.Remove bucket key id) is = is.2
 meets_limits (command.SetTags bucket key id tags) is = is.2
 meets_limits (command.SetHold bucket key id hold) is = is.2
+meets_limits (command.Receive from n effect) is = (is.0, effect_meets effect is.1)
+meets_limits (command.Settle to n outcome) is = is
+meets_limits (command.Attempt to n) is = is
 
 -- ---- a configuration's command has one length, whatever its regions are
 

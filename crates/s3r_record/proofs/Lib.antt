@@ -14,6 +14,8 @@ pub mod Ruled
 pub mod BucketLaws
 pub mod ReplicationLaws
 pub mod VersionLaws
+pub mod EffectLaws
+pub mod TaskLaws
 pub mod CommandLaws
 pub mod Lengths
 pub mod Examples

@@ -20,6 +20,9 @@ Ruled (command.Marker bucket key) = IsCommand (command.Marker bucket key)
 Ruled (command.Remove bucket key id) = IsCommand (command.Remove bucket key id)
 Ruled (command.SetTags bucket key id tags) = IsCommand (command.SetTags bucket key id tags)
 Ruled (command.SetHold bucket key id hold) = IsCommand (command.SetHold bucket key id hold)
+Ruled (command.Receive from n effect) = IsCommand (command.Receive from n effect)
+Ruled (command.Settle to n outcome) = IsCommand (command.Settle to n outcome)
+Ruled (command.Attempt to n) = IsCommand (command.Attempt to n)
 
 pub ruled_is : (c : Command) → Ruled c → length (spelling c) ≤ 16777216 → IsCommand c
 ruled_is (command.SetReplication name config regions) ruled short = (ruled.0, ruled.1, ruled.2, short, ruled.3)
@@ -32,3 +35,6 @@ ruled_is (command.Marker bucket key) ruled short = ruled
 ruled_is (command.Remove bucket key id) ruled short = ruled
 ruled_is (command.SetTags bucket key id tags) ruled short = ruled
 ruled_is (command.SetHold bucket key id hold) ruled short = ruled
+ruled_is (command.Receive from n effect) ruled short = ruled
+ruled_is (command.Settle to n outcome) ruled short = ruled
+ruled_is (command.Attempt to n) ruled short = ruled

@@ -1,6 +1,5 @@
 -- The laws of each command about versions.
-use Rattle.std.proofs.Common.{ℕ, Bool, List, [], ◌∷◌, length}
-use Rattle.std.proofs.lemmas.Bool.{leb-true, le-leb}
+use Rattle.std.proofs.Common.{ℕ, Bool, List, [], ◌∷◌, lit<}
 use Rattle.s3r_names.specs.declared.tags.Tag.{Tag}
 use Rattle.s3r_names.specs.declared.version.VersionId.{VersionId}
 use Rattle.s3r_record.specs.declared.command.Command.TheVariants as command
@@ -16,8 +15,8 @@ pub put_takes : TakesBehind spelling Ruled (6 ∷ []) put_at
 unfolding put_at
 put_takes =
     take_then _ bucket_name_law (λ bucket b. take_then _ key_law (λ key k. take_then _ set_law
-    (λ tags t. take_then _ flag_law (λ hold _. take_then _ class_law (λ class c. take_then _ body_law (λ bytes short.
-    take_end (command.Put bucket key tags hold class bytes) (b, k, t, c, leb-true (length bytes) 4194304 short)))))))
+    (λ tags t. take_then _ flag_law (λ hold _. take_then _ class_law (λ class c. take_then _ (body_law 4194304 (lit< tt)) (λ bytes short.
+    take_end (command.Put bucket key tags hold class bytes) (b, k, t, c, short)))))))
 
 pub put_again : (bucket key : List ℕ) (tags : List Tag) (hold : Bool) (class bytes : List ℕ) → IsCommand (command.Put bucket key tags hold class bytes)
     → ReadBehind spelling (6 ∷ []) (command.Put bucket key tags hold class bytes) put_at
@@ -25,7 +24,7 @@ unfolding put_at
 put_again bucket key tags hold class bytes fits =
     again_then _ bucket_name_law bucket fits.0 (again_then _ key_law key fits.1
     (again_then _ set_law tags fits.2 (again_then _ flag_law hold tt
-    (again_then _ class_law class fits.3 (again_then _ body_law bytes (le-leb (length bytes) 4194304 fits.4)
+    (again_then _ class_law class fits.3 (again_then _ (body_law 4194304 (lit< tt)) bytes fits.4
     (again_end (command.Put bucket key tags hold class bytes)))))))
 
 pub marker_takes : TakesBehind spelling Ruled (7 ∷ []) marker_at

@@ -5,6 +5,7 @@ use Rattle.s3r_record.specs.Reading.{◌>>=◌, Unread, place}
 use Rattle.s3r_record.specs.BucketCommands.{create_bucket_at, delete_bucket_at, set_versioning_at}
 use Rattle.s3r_record.specs.ReplicationCommands.{set_replication_at, drop_replication_at}
 use Rattle.s3r_record.specs.VersionCommands.{put_at, marker_at, remove_at, set_tags_at, set_hold_at}
+use Rattle.s3r_record.specs.TaskCommands.{receive_at, settle_at, attempt_at}
 
 -- the fields of the command that the byte names
 unfoldable pub fields_at : ℕ → Unread → Result (Command × Unread) ℕ
@@ -19,7 +20,10 @@ fields_at kind fields =
     if kind == 8 then remove_at fields else (
     if kind == 9 then set_tags_at fields else (
     if kind == 10 then set_hold_at fields else (
-    Err 0))))))))))
+    if kind == 11 then receive_at fields else (
+    if kind == 12 then settle_at fields else (
+    if kind == 13 then attempt_at fields else (
+    Err 0)))))))))))))
 
 unfoldable pub command_at : List ℕ → Result Command ℕ
 command_at [] = Err 0

@@ -7,7 +7,9 @@ pub mod ReadingTexts
 pub mod ReadingTags
 pub mod ReadingIds
 pub mod ReadingRules
+pub mod ReadingEffects
 pub mod BucketCommands
 pub mod ReplicationCommands
 pub mod VersionCommands
+pub mod TaskCommands
 pub mod Commands

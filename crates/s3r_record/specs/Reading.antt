@@ -78,5 +78,6 @@ tested_at w test left = do
   bytes ← sized_at w left
   if test bytes.0 then Ok bytes else Err (place left)
 
-abbrev pub is_body : List ℕ → Bool
-is_body bytes = nat_le (length bytes) 4194304
+-- a body has at most so many bytes
+abbrev pub is_body : ℕ → List ℕ → Bool
+is_body most bytes = nat_le (length bytes) most

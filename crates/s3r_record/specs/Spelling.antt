@@ -1,5 +1,5 @@
 -- The one spelling of each command, and what a record holds of it.
-use Rattle.std.specs.Prelude.{◌≤◌, ℕ, Bool, nat_le, List, [], ◌∷◌, ◌++◌, map, length, IsTrue}
+use Rattle.std.specs.Prelude.{◌≤◌, ◌<◌, ◌^◌, ℕ, Bool, nat_le, List, [], ◌∷◌, ◌++◌, map, length, IsTrue}
 use Rattle.std.specs.Int.{w32, to_be_bytes}
 use Rattle.std.specs.List.{list_all}
 use Rattle.s3r_names.specs.Bucket.{is_bucket_name}
@@ -7,11 +7,14 @@ use Rattle.s3r_names.specs.Key.{is_key}
 use Rattle.s3r_names.specs.Class.{is_class_name}
 use Rattle.s3r_names.specs.Tags.{is_tag_set}
 use Rattle.s3r_names.specs.Version.{IsVersionId}
+use Rattle.s3r_names.specs.declared.stamp.Stamp.{Stamp}
 use Rattle.s3r_rules.specs.Rules.{is_config}
 use Rattle.s3r_rules.specs.declared.rule.Rule.{Rule}
 use Rattle.s3r_record.specs.declared.command.Command.{Command}
 use Rattle.s3r_record.specs.declared.command.Command.TheVariants as command
-use Rattle.s3r_record.specs.Fields.{text, body, flag, tags_bytes, id_bytes, rules_bytes}
+use Rattle.s3r_record.specs.declared.effect.Effect.{Effect}
+use Rattle.s3r_record.specs.declared.effect.Effect.TheVariants as effects
+use Rattle.s3r_record.specs.Fields.{text, body, flag, tags_bytes, id_bytes, rules_bytes, number_bytes, outcome_byte, effect_bytes}
 use Rattle.s3r_record.specs.Placing.{IsPlaced, has_texts}
 
 -- a byte that says which command it is, and its fields in order
@@ -26,6 +29,55 @@ spelling (command.Marker bucket key) = 7 ∷ (text bucket ++ text key)
 spelling (command.Remove bucket key id) = 8 ∷ (text bucket ++ text key ++ id_bytes id)
 spelling (command.SetTags bucket key id tags) = 9 ∷ (text bucket ++ text key ++ id_bytes id ++ tags_bytes tags)
 spelling (command.SetHold bucket key id hold) = 10 ∷ (text bucket ++ text key ++ id_bytes id ++ flag hold)
+spelling (command.Receive from n effect) = 11 ∷ from ∷ (number_bytes n ++ effect_bytes effect)
+spelling (command.Settle to n outcome) = 12 ∷ to ∷ (number_bytes n ++ outcome_byte outcome ∷ [])
+spelling (command.Attempt to n) = 13 ∷ to ∷ number_bytes n
+
+-- a region is at most 7, an index at least 1
+pub record IsStamp (stamp : Stamp) : Type 0 where
+  pub n : stamp.n < 2 ^ 64
+  pub region : stamp.region ≤ 7
+  pub above : 1 ≤ stamp.index
+  pub below : stamp.index < 2 ^ 64
+
+-- a task of a region: a region is at most 7, a number at least 1
+pub record IsTask (r n : ℕ) : Type 0 where
+  pub region : r ≤ 7
+  pub above : 1 ≤ n
+  pub below : n < 2 ^ 64
+
+-- what the types of an effect's fields leave open; a body is a Put's or a report's
+abbrev pub EffectMeetsLimits : Effect (List ℕ) → Type 0
+EffectMeetsLimits (effects.Replica from to key id n tags tags_stamp hold hold_stamp class bytes) = IsVersionId id
+    × (n < 2 ^ 64)
+    × IsStamp tags_stamp
+    × IsStamp hold_stamp
+    × (length bytes ≤ 15582912)
+EffectMeetsLimits (effects.Marker from to key id n) = IsVersionId id × (n < 2 ^ 64)
+EffectMeetsLimits (effects.Tags from to key id tags stamp) = IsVersionId id × IsStamp stamp
+EffectMeetsLimits (effects.Hold from to key id hold stamp) = IsVersionId id × IsStamp stamp
+
+-- each of its fields meets its rule
+abbrev pub IsEffect : Effect (List ℕ) → Type 0
+IsEffect (effects.Replica from to key id n tags tags_stamp hold hold_stamp class bytes) = IsTrue (is_bucket_name from)
+    × IsTrue (is_bucket_name to)
+    × IsTrue (is_key key)
+    × IsTrue (is_tag_set tags)
+    × IsTrue (is_class_name class)
+    × EffectMeetsLimits (effects.Replica from to key id n tags tags_stamp hold hold_stamp class bytes)
+IsEffect (effects.Marker from to key id n) = IsTrue (is_bucket_name from)
+    × IsTrue (is_bucket_name to)
+    × IsTrue (is_key key)
+    × EffectMeetsLimits (effects.Marker from to key id n)
+IsEffect (effects.Tags from to key id tags stamp) = IsTrue (is_bucket_name from)
+    × IsTrue (is_bucket_name to)
+    × IsTrue (is_key key)
+    × IsTrue (is_tag_set tags)
+    × EffectMeetsLimits (effects.Tags from to key id tags stamp)
+IsEffect (effects.Hold from to key id hold stamp) = IsTrue (is_bucket_name from)
+    × IsTrue (is_bucket_name to)
+    × IsTrue (is_key key)
+    × EffectMeetsLimits (effects.Hold from to key id hold stamp)
 
 -- each field meets its type's rule, and the spelling has at most 16 MiB, which only a configuration's could pass
 abbrev pub IsCommand : Command → Type 0
@@ -44,6 +96,9 @@ IsCommand (command.Marker bucket key) = IsTrue (is_bucket_name bucket) × IsTrue
 IsCommand (command.Remove bucket key id) = IsTrue (is_bucket_name bucket) × IsTrue (is_key key) × IsVersionId id
 IsCommand (command.SetTags bucket key id tags) = IsTrue (is_bucket_name bucket) × IsTrue (is_key key) × IsVersionId id × IsTrue (is_tag_set tags)
 IsCommand (command.SetHold bucket key id hold) = IsTrue (is_bucket_name bucket) × IsTrue (is_key key) × IsVersionId id
+IsCommand (command.Receive from n effect) = IsTask from n × IsEffect effect
+IsCommand (command.Settle to n outcome) = IsTask to n
+IsCommand (command.Attempt to n) = IsTask to n
 
 -- what the types of its fields leave open: the length of a body, the rule of an id, and of a configuration its regions and
 -- its length
@@ -58,6 +113,9 @@ MeetsLimits (command.Marker bucket key) = Unit {0}
 MeetsLimits (command.Remove bucket key id) = IsVersionId id
 MeetsLimits (command.SetTags bucket key id tags) = IsVersionId id
 MeetsLimits (command.SetHold bucket key id hold) = IsVersionId id
+MeetsLimits (command.Receive from n effect) = IsTask from n × EffectMeetsLimits effect
+MeetsLimits (command.Settle to n outcome) = IsTask to n
+MeetsLimits (command.Attempt to n) = IsTask to n
 
 -- a configuration's command is short enough for a record, whatever its regions are
 abbrev pub fits_record : List ℕ → List Rule → Bool

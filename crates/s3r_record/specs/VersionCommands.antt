@@ -18,7 +18,7 @@ put_at fields = do
   tags ← tags_at allowed.Lawful key.1
   hold ← flag_at tags.1
   class ← tested_at w16 is_class_name hold.1
-  body ← tested_at w32 is_body class.1
+  body ← tested_at w32 (is_body 4194304) class.1
   Ok (command.Put bucket.0 key.0 tags.0 hold.0 class.0 body.0, body.1)
 
 unfoldable pub marker_at : Unread → Result (Command × Unread) ℕ

@@ -1,4 +1,5 @@
-use s3r_names::{BucketName, Bytes, ClassName, Key, TagSet, VersionId};
+use crate::effect::Effect;
+use s3r_names::{BucketName, Bytes, ClassName, Key, Outcome, TagSet, VersionId};
 use s3r_rules::Config;
 
 /// What one record of a region's volume says.
@@ -58,5 +59,22 @@ pub enum Command {
         key: Key,
         id: VersionId,
         hold: bool,
+    },
+    /// An effect of another region was received, or of this one, the number being its task's there.
+    Receive {
+        from: u8,
+        number: u64,
+        effect: Effect<Bytes>,
+    },
+    /// A task to a region came to this there.
+    Settle {
+        to: u8,
+        number: u64,
+        outcome: Outcome,
+    },
+    /// A task couldn't be carried, since its region couldn't be written to.
+    Attempt {
+        to: u8,
+        number: u64,
     },
 }

@@ -12,6 +12,7 @@ use crate::fault::RecordFault;
 use crate::kinds;
 use crate::reading::Rest;
 use crate::replication_decoding::{drop_replication, set_replication};
+use crate::task_decoding::{attempt, receive, settle};
 use crate::version_decoding::{marker, put, remove, set_hold, set_tags};
 use std::alloc::Global;
 
@@ -30,6 +31,9 @@ fn fields_of(alloc: Global, kind: u8, fields: Rest<'_>) -> Result<(Command, Rest
         kinds::REMOVE => remove(alloc, fields),
         kinds::SET_TAGS => set_tags(alloc, fields),
         kinds::SET_HOLD => set_hold(alloc, fields),
+        kinds::RECEIVE => receive(alloc, fields),
+        kinds::SETTLE => settle(fields),
+        kinds::ATTEMPT => attempt(fields),
         _ => Err(RecordFault::NotACommand(0)),
     }
 }

@@ -7,10 +7,13 @@ ghost use Rattle.s3r_record.specs.declared.command.Command.{Command};
 
 use crate::bucket_encoding::{write_create_bucket, write_delete_bucket, write_set_versioning};
 use crate::command::Command;
+use crate::effect::Effect;
 use crate::replication_encoding::{write_drop_replication, write_set_replication};
+use crate::task_encoding::{write_attempt, write_receive, write_settle};
 use crate::version_encoding::{
     write_marker, write_put, write_remove, write_set_hold, write_set_tags,
 };
+use s3r_names::Bytes;
 use std::alloc::{AllocError, Global};
 
 fn write_command(out: &mut Vec<u8>, command: &Command) -> Result<(), AllocError>
@@ -50,11 +53,25 @@ fn write_command(out: &mut Vec<u8>, command: &Command) -> Result<(), AllocError>
             id,
             hold,
         } => write_set_hold(out, bucket, key, *id, *hold),
+        Command::Receive {
+            from,
+            number,
+            effect,
+        } => write_receive(out, *from, *number, effect),
+        Command::Settle {
+            to,
+            number,
+            outcome,
+        } => write_settle(out, *to, *number, *outcome),
+        Command::Attempt { to, number } => write_attempt(out, *to, *number),
     }
 }
 
 /// Room for what is short in every record: its length, its gate, the names of a bucket and a class, an id and flags.
 const SHORT_FIELDS: usize = 128;
+
+/// Room for what is short in the record of an effect besides: a second bucket's name, numbers and stamps.
+const SHORT_EFFECT_FIELDS: usize = 256;
 
 /// The most bytes of a tag.
 const LONGEST_TAG: usize = 1540;
@@ -62,13 +79,35 @@ const LONGEST_TAG: usize = 1540;
 /// More bytes than most rules have.
 const USUAL_RULE: usize = 256;
 
+/// At least the bytes of the effect's record, so that its buffer never grows.
+fn likely_effect_length(effect: &Effect<Bytes>) -> usize {
+    match effect {
+        Effect::Replica {
+            key,
+            tags,
+            body,
+            ..
+        } => SHORT_EFFECT_FIELDS
+            + key.as_bytes().len()
+            + LONGEST_TAG * tags.as_slice().len()
+            + body.as_slice().len(),
+        Effect::Marker { key, .. } | Effect::Hold { key, .. } => SHORT_EFFECT_FIELDS
+            + key.as_bytes().len(),
+        Effect::Tags { key, tags, .. } => SHORT_EFFECT_FIELDS
+            + key.as_bytes().len()
+            + LONGEST_TAG * tags.as_slice().len(),
+    }
+}
+
 /// At least the bytes of the command's record, but for long rules, so that its buffer seldom grows.
 fn likely_length(command: &Command) -> usize {
     match command {
         Command::CreateBucket { .. }
         | Command::DeleteBucket { .. }
         | Command::SetVersioning { .. }
-        | Command::DropReplication { .. } => SHORT_FIELDS,
+        | Command::DropReplication { .. }
+        | Command::Settle { .. }
+        | Command::Attempt { .. } => SHORT_FIELDS,
         Command::SetReplication { config, .. } => SHORT_FIELDS
             + USUAL_RULE * config.as_slice().len(),
         Command::Put {
@@ -85,6 +124,7 @@ fn likely_length(command: &Command) -> usize {
         Command::SetTags { key, tags, .. } => SHORT_FIELDS
             + key.as_bytes().len()
             + LONGEST_TAG * tags.as_slice().len(),
+        Command::Receive { effect, .. } => likely_effect_length(effect),
     }
 }
 

@@ -11,9 +11,6 @@ use crate::reading::Rest;
 use s3r_names::{BucketName, Bytes, ClassName, Key, NameFault};
 use std::alloc::Global;
 
-/// The most bytes of a body.
-const BODY_LIMIT: usize = 4_194_304;
-
 pub(crate) fn u16_of(left: Rest<'_>) -> Result<(u16, Rest<'_>), RecordFault>
     ensures { Gives (λ x. (x.0, unread x.1)) result (number_at w16 (unread left.entry)) }
 {
@@ -133,13 +130,18 @@ pub(crate) fn class_of(alloc: Global, left: Rest<'_>) -> Result<(ClassName, Rest
     }
 }
 
+/// A body of at most so many bytes.
 #[tactic(auto, unfolding(crate::specs::Reading::tested_at, crate::specs::Reading::sized_at))]
-pub(crate) fn body_of(alloc: Global, left: Rest<'_>) -> Result<(Bytes, Rest<'_>), RecordFault>
-    ensures { Gives (λ x. (x.0, unread x.1)) result (tested_at w32 is_body (unread left.entry)) }
+pub(crate) fn body_of(
+    alloc: Global,
+    most: usize,
+    left: Rest<'_>,
+) -> Result<(Bytes, Rest<'_>), RecordFault>
+    ensures { Gives (λ x. (x.0, unread x.1)) result (tested_at w32 (is_body most) (unread left.entry)) }
 {
     let (len, rest) = u32_of(left)?;
     let (bytes, rest) = bytes_of(left, len as usize, rest)?;
-    if bytes.len() > BODY_LIMIT {
+    if bytes.len() > most {
         return Err(left.fault());
     }
     Ok((Bytes::from_slice(alloc, bytes)?, rest))

@@ -1,12 +1,12 @@
-//! Ids of versions, read from the front of what is left.
+//! Ids of versions and stamps, read from the front of what is left.
 
 ghost use Rattle.s3r_record.specs.Reading.{Gives, unread};
-ghost use Rattle.s3r_record.specs.ReadingIds.{region_at, index_at, id_at};
+ghost use Rattle.s3r_record.specs.ReadingIds.{region_at, index_at, id_at, stamp_at};
 
 use crate::fault::RecordFault;
 use crate::fields::{byte_of, u64_of};
 use crate::reading::Rest;
-use s3r_names::VersionId;
+use s3r_names::{Stamp, VersionId};
 
 /// The last region's number.
 const LAST_REGION: u8 = 7;
@@ -19,7 +19,7 @@ pub(crate) fn region_of(left: Rest<'_>) -> Result<(u8, Rest<'_>), RecordFault>
 }
 
 #[tactic(auto, unfolding(crate::specs::ReadingIds::index_at))]
-fn index_of(left: Rest<'_>) -> Result<(u64, Rest<'_>), RecordFault>
+pub(crate) fn index_of(left: Rest<'_>) -> Result<(u64, Rest<'_>), RecordFault>
     ensures { Gives (λ x. (x.0, unread x.1)) result (index_at (unread left.entry)) }
 {
     let (index, rest) = u64_of(left)?;
@@ -36,4 +36,14 @@ pub(crate) fn id_of(left: Rest<'_>) -> Result<(VersionId, Rest<'_>), RecordFault
     let (region, rest) = region_of(left)?;
     let (index, rest) = index_of(rest)?;
     Ok((VersionId { region, index }, rest))
+}
+
+#[tactic(auto, unfolding(crate::specs::ReadingIds::stamp_at))]
+pub(crate) fn stamp_of(left: Rest<'_>) -> Result<(Stamp, Rest<'_>), RecordFault>
+    ensures { Gives (λ x. (x.0, unread x.1)) result (stamp_at (unread left.entry)) }
+{
+    let (n, rest) = u64_of(left)?;
+    let (region, rest) = region_of(rest)?;
+    let (index, rest) = index_of(rest)?;
+    Ok((Stamp { n, region, index }, rest))
 }

@@ -19,3 +19,9 @@ pub(crate) const REMOVE: u8 = 8;
 pub(crate) const SET_TAGS: u8 = 9;
 
 pub(crate) const SET_HOLD: u8 = 10;
+
+pub(crate) const RECEIVE: u8 = 11;
+
+pub(crate) const SETTLE: u8 = 12;
+
+pub(crate) const ATTEMPT: u8 = 13;

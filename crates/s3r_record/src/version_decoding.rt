@@ -11,6 +11,9 @@ use crate::reading::Rest;
 use crate::tag_fields::tag_set_of;
 use std::alloc::Global;
 
+/// The most bytes of a Put's body.
+const BODY_LIMIT: usize = 4_194_304;
+
 #[tactic(auto, unfolding(crate::specs::VersionCommands::put_at))]
 pub(crate) fn put(alloc: Global, fields: Rest<'_>) -> Result<(Command, Rest<'_>), RecordFault>
     ensures { Gives (λ x. (x.0, unread x.1)) result (put_at (unread fields.entry)) }
@@ -20,7 +23,7 @@ pub(crate) fn put(alloc: Global, fields: Rest<'_>) -> Result<(Command, Rest<'_>)
     let (tags, rest) = tag_set_of(alloc, rest)?;
     let (hold, rest) = flag_of(rest)?;
     let (class, rest) = class_of(alloc, rest)?;
-    let (body, rest) = body_of(alloc, rest)?;
+    let (body, rest) = body_of(alloc, BODY_LIMIT, rest)?;
     let command = Command::Put {
         bucket,
         key,

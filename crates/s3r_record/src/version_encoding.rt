@@ -3,7 +3,6 @@
 ghost use Rattle.std.specs.Prelude.{◌≡◌, ◌≤◌, ◌∷◌, ◌++◌, length, IsTrue, OnOk};
 ghost use Rattle.s3r_names.specs.Bucket.{is_bucket_name};
 ghost use Rattle.s3r_names.specs.Key.{is_key};
-ghost use Rattle.s3r_names.specs.Class.{is_class_name};
 ghost use Rattle.s3r_names.specs.Version.{IsVersionId};
 ghost use Rattle.s3r_record.specs.Fields.{text};
 ghost use Rattle.s3r_record.specs.Spelling.{spelling, IsCommand};
@@ -11,7 +10,7 @@ ghost use Rattle.s3r_record.specs.declared.command.Command.{Command};
 
 use crate::command::Command;
 use crate::kinds;
-use crate::writing::{write_body, write_flag, write_id, write_tags, write_text};
+use crate::writing::{write_body, write_class, write_flag, write_id, write_tags, write_text};
 use s3r_names::{BucketName, Bytes, ClassName, Key, TagSet, VersionId};
 use std::alloc::AllocError;
 
@@ -28,13 +27,6 @@ fn write_front(
     out.push(kind)?;
     write_text(out, bucket.as_bytes())?;
     write_text(out, key.as_bytes())
-}
-
-fn write_class(out: &mut Vec<u8>, class: &ClassName) -> Result<(), AllocError>
-    ensures spelled { OnOk result (out.new.items ≡ out.old.items ++ text class.now) }
-    ensures named { OnOk result (IsTrue (is_class_name class.now)) }
-{
-    write_text(out, class.as_bytes())
 }
 
 pub(crate) fn write_put(

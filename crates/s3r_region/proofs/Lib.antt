@@ -1,4 +1,12 @@
-pub mod Places
-pub mod Earlier
-pub mod BucketView
-pub mod Steps
+mod Places
+mod BucketView
+mod Given
+mod Sends
+mod Waits
+mod Tasks
+mod Receives
+mod Steps
+mod Prescribed
+mod Applied
+pub mod Views
+mod Received

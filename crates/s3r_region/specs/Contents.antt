@@ -1,10 +1,15 @@
 -- What a region keeps.
-use Rattle.std.specs.Prelude.{ℕ, Bool, ◌&&◌, List, nat_lt, nat_le, map}
+use Rattle.std.specs.Prelude.{ℕ, Bool, not, ◌&&◌, List, Option, nat_lt, nat_le, map, is_none}
 use Rattle.std.specs.List.{list_all}
 use Rattle.std.specs.Str.{bytes_eq}
 use Rattle.s3r_names.specs.declared.version.VersionId.{VersionId}
+use Rattle.s3r_queue.specs.declared.inbox.Noted.{Noted}
+use Rattle.s3r_queue.specs.declared.task.Task.{Task}
+use Rattle.s3r_versions.specs.Lookup.{find_version}
+use Rattle.s3r_history.specs.declared.sent.Prescribed.{Prescribed}
 use Rattle.s3r_history.specs.Words.{Name}
 use Rattle.s3r_history.specs.Past.{Entry}
+use Rattle.s3r_history.specs.Judging.{is_ahead}
 use Rattle.s3r_region.specs.declared.bucket.Bucket.{Bucket}
 
 pub record Contents : Type 0 where
@@ -15,6 +20,10 @@ pub record Contents : Type 0 where
   pub commands : ℕ
   pub clock : ℕ
   pub buckets : List Bucket
+  -- the tasks to each region
+  pub outbox : List (List (Task Prescribed))
+  -- what was received last from each region
+  pub inbox : List (Option Noted)
 
 abbrev pub is_named : Name → Bucket → Bool
 is_named name bucket = bytes_eq bucket.name name
@@ -29,9 +38,13 @@ is_id id = nat_le 1 id.index && (nat_le id.region 7 && nat_lt id.index 184467440
 abbrev pub have_ids : List Entry → Bool
 have_ids rows = list_all (λ row. is_id row.id) rows
 
--- the row is of a command before this index
-abbrev pub is_earlier : ℕ → Entry → Bool
-is_earlier index row = nat_lt row.id.index index && is_id row.id
+-- the row's id isn't of a later command of region r than the first n
+abbrev pub is_given : ℕ → ℕ → Entry → Bool
+is_given r n row = not (is_ahead r n row.id) && is_id row.id
 
-abbrev pub are_earlier : ℕ → List Bucket → Bool
-are_earlier index buckets = list_all (λ bucket. list_all (is_earlier index) bucket.rows.rows) buckets
+abbrev pub are_given : ℕ → ℕ → List Bucket → Bool
+are_given r n buckets = list_all (λ bucket. list_all (is_given r n) bucket.rows.rows) buckets
+
+-- no bucket has the version
+abbrev pub none_has : Name → VersionId → List Bucket → Bool
+none_has key id buckets = list_all (λ (bucket : Bucket). is_none (find_version key id bucket.rows.rows)) buckets

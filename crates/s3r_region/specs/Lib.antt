@@ -1,4 +1,11 @@
+pub mod Waiting
 pub mod Contents
 pub mod After
 pub mod Changes
+pub mod Receives
+pub mod Prescribing
+pub mod Written
+pub mod Status
+pub mod View
+pub mod Applies
 pub mod Denies

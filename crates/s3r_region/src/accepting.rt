@@ -1,14 +1,20 @@
-//! Which commands may come next, by the bucket that they name.
+//! Which commands may come next.
 
-ghost use Rattle.std.specs.Prelude.{◌≡◌, option_map, option_copied};
-ghost use Rattle.s3r_history.specs.Accepts.{first_of_causes, of_deletion, of_switch, of_configuration, of_dropping, of_put, of_marker, of_removal, of_tags, of_hold, of_a_marker, in_version, beyond};
+ghost use Rattle.std.specs.Prelude.{◌≡◌, option_map, option_copied, length};
+ghost use Rattle.s3r_history.specs.Words.{History};
+ghost use Rattle.s3r_history.specs.Accepts.{refusal, causes, first_of_causes, of_creation, in_region, of_receipt, of_task, of_deletion, of_switch, of_configuration, of_dropping, of_put, of_marker, of_removal, of_tags, of_hold, of_a_marker, in_version, beyond};
 ghost use Rattle.s3r_versions.specs.Lookup.{find_version};
-ghost use Rattle.s3r_region.specs.After.{told_by};
-ghost use Rattle.s3r_region.specs.Denies.{Accepts};
+ghost use Rattle.s3r_region.specs.After.{IsAfter, told_by, seen};
+ghost use Rattle.s3r_region.specs.View.{seen_view, seen_last, seen_next};
+ghost use Rattle.s3r_region.specs.Denies.{Accepts, Gives};
 
-use crate::{Bucket, Deny};
+use crate::{Bucket, Deny, State};
 use s3r_history::Refusal;
-use s3r_names::{Bytes, Key, VersionId};
+use s3r_names::{BucketName, Bytes, Key, VersionId};
+use s3r_record::Command;
+
+/// The most buckets of a region.
+const MOST_BUCKETS: usize = 100;
 
 /// Whether the bucket may be deleted.
 pub(crate) fn may_delete(bucket: &Bucket) -> Result<(), Deny>
@@ -130,4 +136,97 @@ pub(crate) fn may_hold(bucket: &Bucket, key: &Key, id: VersionId) -> Result<(), 
         return Err(Deny::Refused(Refusal::LockNeeded));
     }
     is_object(bucket, key, id)
+}
+
+impl State {
+    /// Whether the command may come next.
+    pub fn accepts(&self, command: &Command) -> Result<(), Deny>
+        ensures { (h : History) → IsAfter self.now h → Accepts (refusal self.now.regions self.now.region h command.now) result }
+    {
+        self.may_come(command)
+    }
+
+    fn may_come(&self, command: &Command) -> Result<(), Deny>
+        ensures { Accepts (first_of_causes (causes self.now.regions (seen_view self.now) command.now)) result }
+    {
+        match command {
+            Command::CreateBucket { name, .. } => self.may_create(name),
+            Command::DeleteBucket { name } => may_delete(self.there(name)?),
+            Command::SetVersioning { name, enabled } => may_switch(self.there(name)?, *enabled),
+            Command::SetReplication { name, regions, .. } => {
+                are_there(regions, self.regions())?;
+                may_configure(self.there(name)?)
+            }
+            Command::DropReplication { name } => may_drop(self.there(name)?),
+            Command::Put { bucket, hold, .. } => may_put(self.there(bucket)?, *hold),
+            Command::Marker { bucket, .. } => may_mark(self.there(bucket)?),
+            Command::Remove { bucket, key, id } => may_remove(self.there(bucket)?, key, *id),
+            Command::SetTags {
+                bucket,
+                key,
+                id,
+                ..
+            } => may_tag(self.there(bucket)?, key, *id),
+            Command::SetHold {
+                bucket,
+                key,
+                id,
+                ..
+            } => may_hold(self.there(bucket)?, key, *id),
+            Command::Receive { from, number, .. } => self.may_receive(*from, *number),
+            Command::Settle { to, number, .. } | Command::Attempt { to, number } => {
+                self.may_end(*to, *number)
+            }
+        }
+    }
+
+    /// The bucket of this name, or the refusal of one that isn't there.
+    fn there(&self, name: &BucketName) -> Result<&Bucket, Deny>
+        ensures { Gives (seen self.now name.now) result }
+    {
+        match self.bucket(name) {
+            Some(bucket) => Ok(bucket),
+            None => Err(Deny::Refused(Refusal::NoSuchBucket)),
+        }
+    }
+
+    fn may_create(&self, name: &BucketName) -> Result<(), Deny>
+        ensures { Accepts (first_of_causes (of_creation (seen self.now name.now) (length self.now.buckets))) result }
+    {
+        if self.bucket(name).is_some() {
+            return Err(Deny::Refused(Refusal::BucketAlreadyExists));
+        }
+        if self.count() >= MOST_BUCKETS {
+            return Err(Deny::Refused(Refusal::TooManyBuckets));
+        }
+        Ok(())
+    }
+
+    /// Whether a task of this number may be received from a region.
+    fn may_receive(&self, from: u8, number: u64) -> Result<(), Deny>
+        ensures { Accepts (first_of_causes (in_region self.now.regions from (of_receipt number (seen_last self.now from)))) result }
+    {
+        if u32::from(from) >= self.regions() {
+            return Err(Deny::Refused(Refusal::NoSuchRegion { region: from }));
+        }
+        let watermark = self.inbox().watermark(u32::from(from));
+        if number <= watermark {
+            return Err(Deny::Refused(Refusal::NotNext { watermark }));
+        }
+        Ok(())
+    }
+
+    /// Whether a task of this number to a region may be settled, or tried once more.
+    fn may_end(&self, to: u8, number: u64) -> Result<(), Deny>
+        ensures { Accepts (first_of_causes (in_region self.now.regions to (of_task number (seen_next self.now to)))) result }
+    {
+        if u32::from(to) >= self.regions() {
+            return Err(Deny::Refused(Refusal::NoSuchRegion { region: to }));
+        }
+        let first = self.outbox().first(u32::from(to)).unwrap_or(0);
+        if number != first {
+            return Err(Deny::Refused(Refusal::NotFirst { first }));
+        }
+        Ok(())
+    }
 }

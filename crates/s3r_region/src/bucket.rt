@@ -1,12 +1,13 @@
 //! The buckets of a region.
 
 ghost use Rattle.std.specs.Prelude.{◌≡◌, OnOk, OnErr, option_copied, find, position};
+ghost use Rattle.s3r_history.specs.Carried.{is_applied};
 ghost use Rattle.s3r_region.specs.Contents.{is_named};
-ghost use Rattle.s3r_region.specs.Changes.{set_first, without_first, changed, new_bucket, IsLater};
+ghost use Rattle.s3r_region.specs.Changes.{set_first, without_first, changed, changed_if, new_bucket, IsFreeIn};
 
 use crate::change::Change;
 use s3r_history::Replication;
-use s3r_names::{BucketName, Bytes};
+use s3r_names::{BucketName, Kept, Outcome};
 use s3r_versions::Rows;
 use std::alloc::{AllocError, Global};
 
@@ -20,7 +21,7 @@ pub struct Bucket {
     pub enabled: bool,
     /// Where to it is copied.
     pub config: Option<Replication>,
-    pub rows: Rows<Bytes>,
+    pub rows: Rows<Kept>,
 }
 
 impl Bucket {
@@ -56,13 +57,33 @@ pub(crate) fn change_bucket(
     name: &BucketName,
     change: Change,
 ) -> Result<(), AllocError>
-    requires { IsLater change buckets.old.items }
+    requires { IsFreeIn change buckets.old.items }
     ensures ok { OnOk result (buckets.new.items ≡ set_first (is_named name.now) (changed change) buckets.old.items) }
     ensures err { OnErr result (buckets.new.items ≡ buckets.old.items) }
 {
     match place_of(buckets, name) {
         Some(place) => buckets[place].change(change),
         None => Ok(()),
+    }
+}
+
+/// Makes the change of an effect that came to this.
+pub(crate) fn change_if_applied(
+    buckets: &mut Vec<Bucket>,
+    name: &BucketName,
+    change: Change,
+    outcome: Outcome,
+) -> Result<(), AllocError>
+    requires { IsFreeIn change buckets.old.items }
+    ensures ok { OnOk result (buckets.new.items ≡ changed_if (is_applied outcome) name.now change buckets.old.items) }
+    ensures err { OnErr result (buckets.new.items ≡ buckets.old.items) }
+{
+    match outcome {
+        Outcome::Applied => change_bucket(buckets, name, change),
+        Outcome::Refused(_) => {
+            drop(change);
+            Ok(())
+        }
     }
 }
 

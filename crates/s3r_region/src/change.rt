@@ -1,19 +1,21 @@
 //! What one command changes of its bucket.
 
 ghost use Rattle.std.specs.Prelude.{◌≡◌, OnOk, OnErr};
-ghost use Rattle.s3r_region.specs.Changes.{changed, IsFree};
+ghost use Rattle.s3r_region.specs.Changes.{changed, received, IsFree};
 
 use crate::Bucket;
 use s3r_history::Replication;
-use s3r_names::{Bytes, Key, Stamp, TagSet, VersionId};
-use s3r_versions::Row;
+use s3r_names::{Kept, Key, Stamp, TagSet, VersionId};
+use s3r_versions::{Row, Rows};
 use std::alloc::AllocError;
 
 /// What one command changes of its bucket.
 #[derive(Drop)]
 pub(crate) enum Change {
     /// A version or a marker is added.
-    Add(Row<Bytes>),
+    Add(Row<Kept>),
+    /// A version or a marker is received: it is added, or its tags and its hold are written where it is there.
+    Receive(Row<Kept>),
     /// A version is removed.
     Remove {
         key: Key,
@@ -39,6 +41,25 @@ pub(crate) enum Change {
     Replication(Option<Replication>),
 }
 
+/// Adds a version that is received, or writes its tags and its hold where it is there.
+fn receive(rows: &mut Rows<Kept>, row: Row<Kept>) -> Result<(), AllocError>
+    ensures rows { OnOk result (rows.new.rows ≡ received row rows.old.rows) }
+    ensures removed { OnOk result (rows.new.removed ≡ rows.old.removed) }
+    ensures err { OnErr result (rows.new ≡ rows.old) }
+{
+    if rows.find(&row.key, row.id).is_none() {
+        return rows.add(row);
+    }
+    if row.marker {
+        return Ok(());
+    }
+    let (id, hold, hold_stamp, tags_stamp) = (row.id, row.hold, row.hold_stamp, row.tags_stamp);
+    let Row { key, tags, .. } = row;
+    rows.set_tags(&key, id, tags, tags_stamp);
+    rows.set_hold(&key, id, hold, hold_stamp);
+    Ok(())
+}
+
 impl Bucket {
     /// Makes the change. Without memory nothing changes.
     pub(crate) fn change(&mut self, change: Change) -> Result<(), AllocError>
@@ -48,6 +69,7 @@ impl Bucket {
     {
         match change {
             Change::Add(row) => self.rows.add(row)?,
+            Change::Receive(row) => receive(&mut self.rows, row)?,
             Change::Remove { key, id } => {
                 self.rows.remove(&key, id)?;
             }

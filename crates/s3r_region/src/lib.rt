@@ -1,10 +1,25 @@
-//! One region's state: what its buckets and their versions are after its commands.
+//! One region's state: what its buckets and their versions are after its commands, what it prescribes to others, and what it
+//! received from them.
 #![tactic(auto)]
 
 mod accepting;
+mod applying;
 mod bucket;
 mod change;
+mod configuring;
+mod effects;
+mod judging;
+mod legal_hold;
+mod object;
+mod parts;
+mod prescribing;
+mod pushing;
+mod queues;
+mod receiving;
+mod sending;
 mod state;
+mod status;
+mod tagging;
 mod version;
 
 pub use bucket::Bucket;

@@ -1,26 +1,27 @@
-//! What a region keeps, and what its commands do to it.
+//! What a region keeps.
 
-ghost use Rattle.std.specs.Prelude.{◌≡◌, ◌+◌, ◌<◌, ◌≤◌, ◌^◌, IsTrue, IfSome, [], ◌∷◌, ◌++◌, None, length, OnOk, option_copied};
-ghost use Rattle.s3r_record.specs.Spelling.{MeetsLimits};
+ghost use Rattle.std.specs.Prelude.{◌≡◌, ◌+◌, ◌<◌, ◌≤◌, ◌^◌, IsTrue, IfOk, IfSome, [], ◌∷◌, ◌++◌, OnOk, option_copied};
+ghost use Rattle.s3r_record.specs.Spelling.{IsTask, EffectMeetsLimits};
+ghost use Rattle.s3r_record.specs.declared.command.Command.{Command};
 ghost use Rattle.s3r_history.specs.Words.{History};
-ghost use Rattle.s3r_history.specs.Accepts.{refusal, causes, first_of_causes, of_creation};
+ghost use Rattle.s3r_history.specs.Deeds.{judge};
+ghost use Rattle.s3r_history.specs.Judging.{judged};
+ghost use Rattle.s3r_history.specs.Carried.{target_of};
+ghost use Rattle.s3r_region.specs.Applies.{Applies};
 
 use crate::Bucket;
-use crate::accepting::{
-    are_there, may_configure, may_delete, may_drop, may_hold, may_mark, may_put, may_remove,
-    may_switch, may_tag,
-};
-use crate::bucket::{bucket_named, change_bucket, remove_bucket};
+use crate::bucket::{bucket_named, change_bucket, change_if_applied, remove_bucket};
 use crate::change::Change;
-use crate::version::{new_marker, new_version};
-use s3r_history::{Refusal, Replication};
-use s3r_names::{BucketName, Stamp};
-use s3r_record::Command;
+use crate::judging::judged;
+use crate::parts::{carried_n, target_of};
+use crate::queues::Queues;
+use crate::receiving::change_by;
+use s3r_history::{Prescribed, Refusal, Sent};
+use s3r_names::{BucketName, Bytes, Outcome, Reason, Stamp};
+use s3r_queue::{Inbox, Outbox};
+use s3r_record::Effect;
 use std::alloc::{AllocError, Global};
 use std::marker::Model;
-
-/// The most buckets of a region.
-const MOST_BUCKETS: usize = 100;
 
 /// Why a command isn't accepted.
 #[derive(Clone, Copy, Debug, PartialEq, Eq)]
@@ -30,53 +31,56 @@ pub enum Deny {
     OutOfMemory,
 }
 
-/// What a region keeps.
+/// What a region keeps: its buckets, its tasks to others and what it received from them.
 #[derive(Drop)]
 pub struct State {
     region: u8,
-    regions: u32,
     commands: u64,
     clock: u64,
     buckets: Vec<Bucket>,
+    queues: Queues,
 }
 
 impl Model for State {
-    ghost use Rattle.std.specs.Prelude.{◌+◌, ◌≤◌, IsTrue};
-    ghost use Rattle.s3r_region.specs.Contents.{Contents, are_earlier};
+    ghost use Rattle.std.specs.Prelude.{◌≤◌, IsTrue};
+    ghost use Rattle.s3r_region.specs.Contents.{Contents, are_given};
 
     ghost Value = { Contents };
 
     ghost view = { λ state. record {
       region = state.region;
-      regions = state.regions;
+      regions = state.queues.regions;
       commands = state.commands;
       clock = state.clock;
       buckets = state.buckets.items;
+      outbox = state.queues.outbox;
+      inbox = state.queues.inbox;
     } };
 
-    ghost invariant = { λ state. (state.region ≤ 7) × IsTrue (are_earlier (state.commands + 1) state.buckets.items) };
+    ghost invariant = { λ state. (state.region ≤ 7) × IsTrue (are_given state.region state.commands state.buckets.items) };
 }
 
 impl State {
+    ghost use Rattle.std.specs.Prelude.{length};
     ghost use Rattle.s3r_region.specs.Contents.{is_named, have_ids};
-    ghost use Rattle.s3r_region.specs.After.{IsAfter, seen_bucket, seen, told_by};
-    ghost use Rattle.s3r_region.specs.Denies.{Accepts, Gives};
-    ghost use Rattle.s3r_region.specs.Changes.{next_stamp, with_change, without_first, new_bucket, IsAt};
+    ghost use Rattle.s3r_region.specs.After.{IsAfter, seen_bucket, seen};
+    ghost use Rattle.s3r_region.specs.Changes.{next_stamp, with_change, without_first, new_bucket, IsNext};
 
-    /// The state of this region, one of so many, after no command.
-    pub fn new(alloc: Global, region: u8, regions: u32) -> State
-        requires { region ≤ 7 }
-        ensures after { IsAfter result [] }
-        ensures region { result.region ≡ region }
-        ensures regions { result.regions ≡ regions }
+    /// The state of this region, one of so many, after no command. The error is want of memory.
+    pub fn new(alloc: Global, region: u8, regions: u32) -> Result<State, AllocError>
+        requires region { region ≤ 7 }
+        requires some { 1 ≤ regions }
+        ensures after { IfOk result (λ state. IsAfter state []) }
+        ensures region { IfOk result (λ state. state.region ≡ region) }
+        ensures regions { IfOk result (λ state. state.regions ≡ regions) }
     {
-        State {
+        Ok(State {
             region,
-            regions,
             commands: 0,
             clock: 0,
             buckets: Vec::new(alloc),
-        }
+            queues: Queues::new(alloc, regions)?,
+        })
     }
 
     pub fn region(&self) -> u8
@@ -89,7 +93,7 @@ impl State {
     pub fn regions(&self) -> u32
         ensures { result ≡ self.now.regions }
     {
-        self.regions
+        self.queues.regions()
     }
 
     /// How many commands the history has.
@@ -97,6 +101,13 @@ impl State {
         ensures { result ≡ self.now.commands }
     {
         self.commands
+    }
+
+    /// How many buckets there are.
+    pub(crate) fn count(&self) -> usize
+        ensures { result ≡ length self.now.buckets }
+    {
+        self.buckets.len()
     }
 
     /// The bucket of this name.
@@ -107,147 +118,37 @@ impl State {
         bucket_named(&self.buckets, name)
     }
 
-    /// Whether the command may come next.
-    pub fn accepts(&self, command: &Command) -> Result<(), Deny>
-        ensures { (h : History) → IsAfter self.now h → Accepts (refusal self.now.regions self.now.region h command.now) result }
+    /// The tasks to each region: what was prescribed, by which command, and what became of it.
+    pub fn outbox(&self) -> &Outbox<Prescribed>
+        ensures { result.now ≡ self.now.outbox }
     {
-        self.may_come(command)
+        self.queues.outbox()
     }
 
-    fn may_come(&self, command: &Command) -> Result<(), Deny>
-        ensures { Accepts (first_of_causes (causes self.now.regions (seen self.now) (length self.now.buckets) command.now)) result }
+    /// What was received last from each region.
+    pub fn inbox(&self) -> &Inbox
+        ensures { result.now ≡ self.now.inbox }
     {
-        match command {
-            Command::CreateBucket { name, .. } => self.may_create(name),
-            Command::DeleteBucket { name } => may_delete(self.there(name)?),
-            Command::SetVersioning { name, enabled } => may_switch(self.there(name)?, *enabled),
-            Command::SetReplication { name, regions, .. } => {
-                are_there(regions, self.regions)?;
-                may_configure(self.there(name)?)
-            }
-            Command::DropReplication { name } => may_drop(self.there(name)?),
-            Command::Put { bucket, hold, .. } => may_put(self.there(bucket)?, *hold),
-            Command::Marker { bucket, .. } => may_mark(self.there(bucket)?),
-            Command::Remove { bucket, key, id } => may_remove(self.there(bucket)?, key, *id),
-            Command::SetTags {
-                bucket,
-                key,
-                id,
-                ..
-            } => may_tag(self.there(bucket)?, key, *id),
-            Command::SetHold {
-                bucket,
-                key,
-                id,
-                ..
-            } => may_hold(self.there(bucket)?, key, *id),
-        }
+        self.queues.inbox()
     }
 
-    /// The bucket of this name, or the refusal of one that isn't there.
-    fn there(&self, name: &BucketName) -> Result<&Bucket, Deny>
-        ensures { Gives (seen self.now name.now) result }
+    /// What an effect would come to here.
+    pub fn judge(&self, effect: &Effect<Bytes>) -> Outcome
+        ensures after { (h : History) → IsAfter self.now h → result ≡ judge self.now.region h effect.now }
+        ensures judged { result ≡ judged self.now.region self.now.commands effect.now (seen self.now (target_of effect.now)) }
     {
-        match self.bucket(name) {
-            Some(bucket) => Ok(bucket),
-            None => Err(Deny::Refused(Refusal::NoSuchBucket)),
-        }
-    }
-
-    fn may_create(&self, name: &BucketName) -> Result<(), Deny>
-        ensures { Accepts (first_of_causes (of_creation (seen self.now name.now) (length self.now.buckets))) result }
-    {
-        if self.bucket(name).is_some() {
-            return Err(Deny::Refused(Refusal::BucketAlreadyExists));
-        }
-        if self.buckets.len() >= MOST_BUCKETS {
-            return Err(Deny::Refused(Refusal::TooManyBuckets));
-        }
-        Ok(())
-    }
-
-    /// Does what an accepted command says. After an `Err` the state is given up.
-    pub fn apply(&mut self, alloc: Global, command: Command) -> Result<(), AllocError>
-        requires few { self.old.commands + 1 < 2 ^ 64 }
-        requires short { MeetsLimits command }
-        ensures after { OnOk result ((h : History) → IsAfter self.old h → refusal self.old.regions self.old.region h command ≡ None
-            → IsAfter self.new (command ∷ h)) }
-        ensures count { OnOk result (self.new.commands ≡ self.old.commands + 1) }
-        ensures region { self.new.region ≡ self.old.region }
-        ensures regions { self.new.regions ≡ self.old.regions }
-    {
-        let stamp = self.next_stamp();
-        match command {
-            Command::CreateBucket { name, locked } => self.create(alloc, name, locked),
-            Command::DeleteBucket { name } => self.delete(&name),
-            Command::SetVersioning { name, enabled } => {
-                self.change(&name, Change::Versioning(enabled))
-            }
-            Command::SetReplication {
-                name,
-                config,
-                regions,
-            } => {
-                let replication = Replication { config, regions };
-                self.change(&name, Change::Replication(Some(replication)))
-            }
-            Command::DropReplication { name } => self.change(&name, Change::Replication(None)),
-            Command::Put {
-                bucket,
-                key,
-                tags,
-                hold,
-                class,
-                body,
-            } => {
-                let row = new_version(stamp, key, tags, hold, class, body);
-                self.write(&bucket, Change::Add(row), stamp.n)
-            }
-            Command::Marker { bucket, key } => {
-                let row = new_marker(alloc, stamp, key)?;
-                self.write(&bucket, Change::Add(row), stamp.n)
-            }
-            Command::Remove { bucket, key, id } => {
-                self.change(&bucket, Change::Remove { key, id })
-            }
-            Command::SetTags {
-                bucket,
-                key,
-                id,
-                tags,
-            } => self.write(
-                &bucket,
-                Change::Tags {
-                    key,
-                    id,
-                    tags,
-                    stamp,
-                },
-                stamp.n,
-            ),
-            Command::SetHold {
-                bucket,
-                key,
-                id,
-                hold,
-            } => self.write(
-                &bucket,
-                Change::Hold {
-                    key,
-                    id,
-                    hold,
-                    stamp,
-                },
-                stamp.n,
-            ),
+        match self.bucket(target_of(effect)) {
+            Some(bucket) => judged(bucket, self.region, self.commands, effect),
+            None => Outcome::Refused(Reason::NoSuchDestination),
         }
     }
 
     /// The stamp of the next command, where it writes.
-    fn next_stamp(&self) -> Stamp
+    pub(crate) fn next_stamp(&self) -> Stamp
         requires { self.now.commands + 1 < 2 ^ 64 }
         ensures stamp { result ≡ next_stamp self.now }
         ensures region { result.region ≤ 7 }
+        ensures above { self.now.clock ≤ result.n }
     {
         Stamp {
             n: self.clock.saturating_add(1),
@@ -256,59 +157,98 @@ impl State {
         }
     }
 
-    fn create(&mut self, alloc: Global, name: BucketName, locked: bool) -> Result<(), AllocError>
+    /// The number of the clock.
+    pub(crate) fn clock(&self) -> u64
+        ensures { result ≡ self.now.clock }
+    {
+        self.clock
+    }
+
+    /// A new bucket. After an error the state is given up.
+    pub(crate) fn create(
+        &mut self,
+        alloc: Global,
+        name: BucketName,
+        locked: bool,
+    ) -> Result<(), AllocError>
         requires { self.old.commands + 1 < 2 ^ 64 }
-        ensures created { OnOk result (self.new ≡ record self.old {
-          commands = self.old.commands + 1;
-          buckets =
-              self.old.buckets ++ new_bucket name locked ∷ [];
-        }) }
-        ensures region { self.new.region ≡ self.old.region }
-        ensures regions { self.new.regions ≡ self.old.regions }
+        ensures { OnOk result (Applies (Command.CreateBucket name locked) self.old self.new) }
     {
         self.buckets.push(Bucket::new(alloc, name, locked))?;
         self.commands += 1;
         Ok(())
     }
 
-    fn delete(&mut self, name: &BucketName) -> Result<(), AllocError>
+    /// The bucket is taken out.
+    pub(crate) fn delete(&mut self, name: &BucketName)
         requires { self.old.commands + 1 < 2 ^ 64 }
-        ensures deleted { OnOk result (self.new ≡ record self.old {
-          commands = self.old.commands + 1;
-          buckets =
-              without_first (is_named name.now) self.old.buckets;
-        }) }
-        ensures region { self.new.region ≡ self.old.region }
-        ensures regions { self.new.regions ≡ self.old.regions }
+        ensures { Applies (Command.DeleteBucket name.now) self.old self.new }
     {
         remove_bucket(&mut self.buckets, name);
         self.commands += 1;
-        Ok(())
     }
 
-    /// Makes the change in the bucket of this name.
-    fn change(&mut self, name: &BucketName, change: Change) -> Result<(), AllocError>
+    /// Makes a command's change in the bucket of this name, under this number of the clock, and puts what it sends behind
+    /// the tasks. After an error the state is given up.
+    pub(crate) fn change(
+        &mut self,
+        name: &BucketName,
+        change: Change,
+        n: u64,
+        sends: Vec<Sent>,
+    ) -> Result<(), AllocError>
         requires few { self.old.commands + 1 < 2 ^ 64 }
-        requires next { IsAt (self.old.commands + 1) change }
-        ensures changed { OnOk result (self.new ≡ with_change self.old name.now change) }
-        ensures region { self.new.region ≡ self.old.region }
-        ensures regions { self.new.regions ≡ self.old.regions }
+        requires next { IsNext self.old change }
+        ensures { OnOk result (self.new ≡ with_change self.old name.now change n sends.items) }
     {
+        self.queues.send(self.commands + 1, sends)?;
         change_bucket(&mut self.buckets, name, change)?;
         self.commands += 1;
+        self.clock = n;
         Ok(())
     }
 
-    /// Makes the change, which is written under this number of the clock.
-    fn write(&mut self, name: &BucketName, change: Change, n: u64) -> Result<(), AllocError>
+    /// An effect of a region is received: it comes to what `judge` says, and changes its bucket where it is applied. After
+    /// an error the state is given up.
+    pub(crate) fn receive(
+        &mut self,
+        alloc: Global,
+        from: u8,
+        number: u64,
+        effect: Effect<Bytes>,
+    ) -> Result<(), AllocError>
         requires few { self.old.commands + 1 < 2 ^ 64 }
-        requires next { IsAt (self.old.commands + 1) change }
-        ensures changed { OnOk result (self.new ≡ record (with_change self.old name.now change) { clock = n }) }
-        ensures region { self.new.region ≡ self.old.region }
-        ensures regions { self.new.regions ≡ self.old.regions }
+        requires task { IsTask from number }
+        requires short { EffectMeetsLimits effect }
+        ensures { OnOk result (Applies (Command.Receive from number effect) self.old self.new) }
     {
-        self.change(name, change)?;
-        self.clock = n;
+        let n = carried_n(&effect);
+        let outcome = self.judge(&effect);
+        let (name, change) = change_by(alloc, self.commands + 1, from, effect)?;
+        change_if_applied(&mut self.buckets, &name, change, outcome)?;
+        self.queues.receive(from, number, outcome);
+        self.commands += 1;
+        self.clock = n.max(self.clock);
         Ok(())
+    }
+
+    /// The first pending task to a region came to this there.
+    pub(crate) fn settle(&mut self, to: u8, number: u64, outcome: Outcome)
+        requires few { self.old.commands + 1 < 2 ^ 64 }
+        requires task { IsTask to number }
+        ensures { Applies (Command.Settle to number outcome) self.old self.new }
+    {
+        self.queues.settle(to, number, outcome);
+        self.commands += 1;
+    }
+
+    /// One attempt more was made for the first pending task to a region.
+    pub(crate) fn attempt(&mut self, to: u8, number: u64)
+        requires few { self.old.commands + 1 < 2 ^ 64 }
+        requires task { IsTask to number }
+        ensures { Applies (Command.Attempt to number) self.old self.new }
+    {
+        self.queues.attempt(to, number);
+        self.commands += 1;
     }
 }

@@ -1,9 +1,9 @@
-//! The rows of new versions and markers.
+//! The rows of new versions and markers, and of those that are received.
 
 ghost use Rattle.std.specs.Prelude.{◌≡◌, ◌≤◌, length, IfOk};
 ghost use Rattle.s3r_history.specs.Deeds.{version, marker};
 
-use s3r_names::{Bytes, ClassName, Key, Stamp, TagSet, VersionId};
+use s3r_names::{Bytes, ClassName, Kept, Key, Stamp, TagSet, VersionId};
 use s3r_versions::Row;
 use std::alloc::{AllocError, Global};
 
@@ -14,9 +14,9 @@ pub(crate) fn new_version(
     tags: TagSet,
     hold: bool,
     class: ClassName,
-    body: Bytes,
-) -> Row<Bytes>
-    requires { length body ≤ 4194304 }
+    body: Kept,
+) -> Row<Kept>
+    requires { length body ≤ 15582912 }
     ensures { result ≡ version stamp key tags hold class body }
 {
     let length = body.as_slice().len() as u32;
@@ -27,6 +27,7 @@ pub(crate) fn new_version(
             index: stamp.index,
         },
         n: stamp.n,
+        place: stamp.index,
         marker: false,
         body,
         length,
@@ -40,12 +41,12 @@ pub(crate) fn new_version(
 }
 
 /// The marker that is written under the stamp.
-pub(crate) fn new_marker(alloc: Global, stamp: Stamp, key: Key) -> Result<Row<Bytes>, AllocError>
+pub(crate) fn new_marker(alloc: Global, stamp: Stamp, key: Key) -> Result<Row<Kept>, AllocError>
     ensures { IfOk result (λ row. row ≡ marker stamp key) }
 {
+    let body = Kept::new(alloc, Bytes::from_vec(Vec::new(alloc)))?;
     let class = ClassName::standard(alloc)?;
     let tags = TagSet::none(alloc);
-    let body = Bytes::from_vec(Vec::new(alloc));
     let mut row = new_version(stamp, key, tags, false, class, body);
     row.marker = true;
     Ok(row)

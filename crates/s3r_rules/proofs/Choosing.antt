@@ -1,10 +1,11 @@
 -- The rule of greatest priority is the one that no other exceeds.
-use Rattle.std.proofs.Common.{◌≡◌, ℕ, ◌≤◌, Bool, true, false, not, ◌==◌, ◌&&◌, ◌||◌, nat_le, nat_lt, if◌then◌else◌, List, [], ◌∷◌, find, Option, Some, None, refl, sym, ap, ap₂, subst, ◌∙◌, cond, arith}
-use Rattle.std.specs.List.{list_all}
-use Rattle.std.proofs.lemmas.Bool.{and_parts}
+use Rattle.std.proofs.Common.{◌≡◌, ℕ, ◌≤◌, Bool, true, false, not, ◌==◌, ◌&&◌, ◌||◌, nat_le, nat_lt, if◌then◌else◌, List, [], ◌∷◌, find, Option, Some, None, refl, sym, ap, ap₂, subst, ◌∙◌, ◌⊎◌, inl, inr, cond, arith}
+use Rattle.std.specs.List.{list_all, list_any}
+use Rattle.std.proofs.lemmas.Bool.{and_parts, and_from, or_left, or_right, eq-eqb}
 use Rattle.std.proofs.lemmas.Bool.Decides.{nat_tests}
 use Rattle.s3r_rules.specs.declared.rule.Rule.{Rule}
 use Rattle.s3r_rules.specs.Choice.{is_choice, choice, above, greatest_from, greatest, with_priority, chosen}
+use Rattle.s3r_rules.proofs.Positions.{find-some}
 
 le-true : (a b : ℕ) → a ≤ b → nat_le a b ≡ true
 le-true a b h = grind (arith, nat_tests)
@@ -122,3 +123,57 @@ module _ (test : Rule → Bool) where
       go : (most : Option ℕ) → greatest test rules ≡ most → chosen test rules most ≡ choice test rules
       go None e = sym (none-found rules rules e)
       go (Some m) e = let bound = (bounded rules None m e).1 in found rules rules m bound (λ k all. least rules None m k e tt all) bound
+
+  none-fits : (rules : List Rule) → greatest_from test None rules ≡ None → list_any test rules ≡ false
+  none-fits [] e = refl
+  none-fits (rule ∷ rules) e = go (none-fits rules) (test rule) e
+    where
+      go : (greatest_from test None rules ≡ None → list_any test rules ≡ false) → (b : Bool)
+          → greatest_from test (if b then Some rule.priority else None) rules ≡ None → (b || list_any test rules) ≡ false
+      go ih true e = absurd (never-none rules rule.priority e)
+      go ih false e = ih e
+
+  -- the greatest priority is one of a rule, or the one before all rules
+  abbrev IsThere : Option ℕ → ℕ → List Rule → Type 0
+  IsThere most m rules = (most ≡ Some m) ⊎ (list_any (with_priority test m) rules ≡ true)
+
+  later : (rule : Rule) (rules : List Rule) (most : Option ℕ) (m : ℕ) → IsThere most m rules → IsThere most m (rule ∷ rules)
+  later rule rules most m (inl h) = inl h
+  later rule rules most m (inr h) = inr (or_right (with_priority test m rule) (list_any (with_priority test m) rules) h)
+
+  fresh : (rule : Rule) (rules : List Rule) (most : Option ℕ) (m : ℕ) → test rule ≡ true → IsThere (Some rule.priority) m rules
+      → IsThere most m (rule ∷ rules)
+  fresh rule rules most m is (inl h) =
+      let same : rule.priority ≡ m = cc in
+      inr (or_left (with_priority test m rule) (list_any (with_priority test m) rules)
+      (and_from (test rule) (rule.priority == m) is (eq-eqb rule.priority m same)))
+  fresh rule rules most m is (inr h) = inr (or_right (with_priority test m rule) (list_any (with_priority test m) rules) h)
+
+  greatest-there : (rules : List Rule) (most : Option ℕ) (m : ℕ) → greatest_from test most rules ≡ Some m → IsThere most m rules
+  greatest-there [] most m e = inl e
+  greatest-there (rule ∷ rules) most m e = go (λ before. greatest-there rules before m) (test rule) refl most e
+    where
+      go : ((before : Option ℕ) → greatest_from test before rules ≡ Some m → IsThere before m rules) → (b : Bool) → test rule ≡ b
+          → (before : Option ℕ) → greatest_from test (if b then above before rule.priority else before) rules ≡ Some m → IsThere before m (rule ∷ rules)
+      go ih false is before e = later rule rules before m (ih before e)
+      go ih true is None e = fresh rule rules None m is (ih (Some rule.priority) e)
+      go ih true is (Some n) e = split (nat_lt rule.priority n) e
+        where
+          split : (b : Bool) → greatest_from test (if b then Some n else Some rule.priority) rules ≡ Some m → IsThere (Some n) m (rule ∷ rules)
+          split true e = later rule rules (Some n) m (ih (Some n) e)
+          split false e = fresh rule rules (Some n) m is (ih (Some rule.priority) e)
+
+  -- where none is chosen no rule fits
+  pub chosen_none_fits : (rules : List Rule) → choice test rules ≡ None → list_any test rules ≡ false
+  chosen_none_fits rules none = go (greatest test rules) refl
+    where
+      there : (m : ℕ) → greatest test rules ≡ Some m → IsThere None m rules → list_any test rules ≡ false
+      there m e (inl h) = absurd cc
+      there m e (inr h) =
+          let one = find-some (with_priority test m) rules h in
+          let found : chosen test rules (Some m) ≡ None = ap (chosen test rules) (sym e) ∙ choice_by_priority rules ∙ none in
+          absurd (cc (one.1, found))
+
+      go : (most : Option ℕ) → greatest test rules ≡ most → list_any test rules ≡ false
+      go None e = none-fits rules e
+      go (Some m) e = there m e (greatest-there rules None m e)

@@ -3,3 +3,9 @@ pub mod Naming
 pub mod Growing
 pub mod Drafted
 pub mod OneDecides
+pub mod Positions
+pub mod ChoicePlaces
+pub mod ChoiceSteps
+pub mod Searching
+pub mod RisingNames
+pub mod ChoiceWalk

@@ -14,22 +14,22 @@ use Rattle.s3r_names.specs.Tags.{is_key_below}
 use Rattle.s3r_rules.specs.declared.rule.Rule.{Rule}
 use Rattle.s3r_rules.specs.Destinations.{place_of, is_first, with_name, names_from, destinations, rise, AreBuckets}
 
-abbrev Name : Type 0
+abbrev pub Name : Type 0
 Name = List ℕ
 
-abbrev cmp : Name → Name → Ordering
+abbrev pub cmp : Name → Name → Ordering
 cmp a b = slice_cmp nat_cmp a b
 
-is_less : (o : Ordering) → is_lt o ≡ true → o ≡ Less
+pub is_less : (o : Ordering) → is_lt o ≡ true → o ≡ Less
 is_less Less e = refl
 is_less Equal e = absurd cc
 is_less Greater e = absurd cc
 
-below-trans : (a b c : Name) → is_key_below a b ≡ true → is_key_below b c ≡ true → is_key_below a c ≡ true
+pub below-trans : (a b c : Name) → is_key_below a b ≡ true → is_key_below b c ≡ true → is_key_below a c ≡ true
 below-trans a b c first second = ap is_lt (nat_list_cmp_total.trans a b c (is_less (cmp a b) first) (is_less (cmp b c) second))
 
 -- of two names that aren't the same, where the first isn't below, the second is
-other-below : (a b : Name) → is_key_below a b ≡ false → bytes_eq a b ≡ false → is_key_below b a ≡ true
+pub other-below : (a b : Name) → is_key_below a b ≡ false → bytes_eq a b ≡ false → is_key_below b a ≡ true
 other-below a b low same =
     ap is_lt (nat_list_cmp_total.antisymm b a) ∙ go (cmp a b) low (is_eq-slice_cmp a b ∙ same)
   where
@@ -39,7 +39,7 @@ other-below a b low same =
     go Greater l e = refl
 
 -- a name goes behind one that is below it, and else before it, unless it is the same
-behind : (name first : Name) (names : List Name) → is_key_below first name ≡ true → with_name name (first ∷ names) ≡ first ∷ with_name name names
+pub behind : (name first : Name) (names : List Name) → is_key_below first name ≡ true → with_name name (first ∷ names) ≡ first ∷ with_name name names
 behind name first names e =
     let more : 1 + place_of name names ≡ suc (place_of name names) = omega arith in
     rw (e, more) (go (is_first name (drop (place_of name names) names)))
@@ -49,7 +49,7 @@ behind name first names e =
     go true = refl
     go false = refl
 
-before : (name first : Name) (names : List Name) → is_key_below first name ≡ false
+pub before : (name first : Name) (names : List Name) → is_key_below first name ≡ false
     → with_name name (first ∷ names) ≡ (if bytes_eq first name then first ∷ names else name ∷ first ∷ names)
 before name first names e = rw e refl
 
@@ -68,7 +68,7 @@ all-with test name (first ∷ names) one all =
     go rest false e false f = ap (list_all test) (before name first names e) ∙ ap (λ b. list_all test (if b then first ∷ names else name ∷ first ∷ names)) f
         ∙ and_from (test name) (list_all test (first ∷ names)) one all
 
-below-all : (a b : Name) (names : List Name) → is_key_below a b ≡ true → list_all (is_key_below b) names ≡ true → list_all (is_key_below a) names ≡ true
+pub below-all : (a b : Name) (names : List Name) → is_key_below a b ≡ true → list_all (is_key_below b) names ≡ true → list_all (is_key_below a) names ≡ true
 below-all a b [] low h = refl
 below-all a b (name ∷ names) low h =
     let parts = and_parts (is_key_below b name) (list_all (is_key_below b) names) h in

@@ -3,6 +3,7 @@ pub mod Rules
 pub mod Choice
 pub mod Writes
 pub mod Destinations
+pub mod Choices
 pub mod Reading
 pub mod Laws
 pub mod Kinds

@@ -13,7 +13,7 @@ use s3r_names::{BucketName, Key, Tag, TagSet};
 
 /// What is to be copied.
 #[derive(Clone, Copy)]
-enum Write<'a> {
+pub enum Write<'a> {
     /// A version of this key with these tags.
     Put(&'a Key, &'a TagSet),
     /// A delete marker of this key.
@@ -55,7 +55,7 @@ fn is_to(rule: &Rule, to: &BucketName) -> bool
     rule.enabled && rule.bucket == *to
 }
 
-fn fits(rule: &Rule, write: &Write, to: &BucketName) -> bool
+pub(crate) fn fits(rule: &Rule, write: &Write, to: &BucketName) -> bool
     ensures { result ≡ fits to.now (seen write.now) rule.now }
 {
     if !is_to(rule, to) {

@@ -1,5 +1,6 @@
 mod Fronts
 mod Passing
+mod Careful
 mod Silent
 mod Telling
 mod Running

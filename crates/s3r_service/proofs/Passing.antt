@@ -1,12 +1,19 @@
 -- Events that come to pass one after another.
-use Rattle.std.proofs.Common.{◌≡◌, ℕ, ◌+◌, ◌-◌, ◌≤◌, List, [], ◌∷◌, ◌++◌, take, drop, refl, sym, ◌∙◌, ap, subst, inl, inr, ⊎_elim, append_assoc, arith}
+use Rattle.std.proofs.Common.{◌≡◌, ◌⊎◌, ℕ, ◌+◌, ◌-◌, ◌<◌, ◌≤◌, List, [], ◌∷◌, ◌++◌, take, drop, refl, sym, ◌∙◌, ap, subst, inl, inr, ⊎_elim, append_assoc, arith}
 use Rattle.std.proofs.Math.Seq.{take-add}
+use Rattle.std.proofs.lemmas.Bool.{cases_lt}
 use Rattle.std.proofs.lemmas.List.{append-nil, drop-take}
 use Rattle.s3r_world.specs.Image.{Image, Puts}
 use Rattle.s3r_world.specs.Outside.{Outside, KeepsVolumes}
 use Rattle.s3r_world.specs.Moments.{elapses_none, elapses_then, elapses_weaker}
-use Rattle.s3r_desk.specs.Events.{found, began, answered, Events}
+use Rattle.s3r_history.specs.Words.{History}
+use Rattle.s3r_store.specs.Stands.{StandsFor}
+use Rattle.s3r_desk.specs.Events.{found, began, answered, Events, Leads}
+use Rattle.s3r_desk.specs.Steps.{Histories}
+use Rattle.s3r_desk.specs.Careful.{AreCareful, IsWhatIsKnown}
 use Rattle.s3r_desk.specs.Progress.{Advances, Progress, Happens, IsWithin}
+use Rattle.s3r_desk.proofs.Agreeing.{keeps_agreement}
+use Rattle.s3r_desk.proofs.Careful.{careful_part}
 use Rattle.s3r_desk.proofs.Advancing.{advances_none, advances_answered, advances_then}
 use Rattle.s3r_service.specs.Passing.{output_of, Brings, IsFront, AtMoment, Passes}
 use Rattle.s3r_service.specs.Served.{IsSoundImage, IsSound, StaysSound}
@@ -151,18 +158,45 @@ passes_sends n text count a b put = record {
   as_read = brings_puts n (take count text) a.as_read b.as_read put.as_read;
 }
 
--- ---- lawful histories stay so
+-- ---- lawful histories that agree stay so
 
-module _ (n : ℕ) (events : Events) (a b : Outside) (passes : Passes n events a b) (sound : IsSound n a) where
-  brought : (events' : Events) (c d : Image) → IsSoundImage n c → Brings n events' c d → IsSoundImage n d
-  brought events' c d was brings r lt = let h = was r lt in let k = (brings.volume r lt).leads h.0 h.1 in (k.0, k.1)
+-- a choice for each number below n, as one function
+module _ (n : ℕ) (P : ℕ → History → Type 0) (one : (r : ℕ) → r < n → (k : History) × P r k) where
+  abbrev pick : (r : ℕ) → (r < n) ⊎ (n ≤ r) → History
+  pick r (inl lt) = (one r lt).0
+  pick r (inr ge) = []
 
+  picked : (r : ℕ) (which : (r < n) ⊎ (n ≤ r)) → r < n → P r (pick r which)
+  picked r (inl below) lt = (one r below).1
+  picked r (inr ge) lt = absurd (omega (arith, ge, lt))
+
+  chosen : (at : Histories) × ((r : ℕ) → r < n → P r (at r))
+  chosen = (λ r. pick r (cases_lt r n), λ r lt. picked r (cases_lt r n) lt)
+
+nothing_known : (r : ℕ) (h : History) → IsWhatIsKnown [] r h
+nothing_known r h g e = absurd cc
+
+module _ (n : ℕ) (events : Events) (careful : AreCareful n [] events) (c d : Image) (brings : Brings n events c d) (was : IsSoundImage n c) where
+  led : (at : Histories) × ((r : ℕ) → r < n → StandsFor n r (at r) (d.volume r) × Leads events r (was.at r) (at r))
+  led = chosen n (λ r k. StandsFor n r k (d.volume r) × Leads events r (was.at r) k)
+      (λ r lt. let k = (brings.volume r lt).leads (was.at r) (was.stands r lt) in (k.0, (k.1, k.2)))
+
+  pub sound_after : IsSoundImage n d
+  sound_after = record {
+    at = led.0;
+    stands = λ r lt. (led.1 r lt).0;
+    agree = keeps_agreement n [] events was.at led.0 careful (λ r lt. nothing_known r (was.at r)) was.agree (λ r lt. (led.1 r lt).1);
+  }
+
+module _ (n : ℕ) (events : Events) (a b : Outside) (careful : AreCareful n [] events) (passes : Passes n events a b) (sound : IsSound n a) where
   pub stays_sound : StaysSound n a b
   stays_sound = record {
     time = elapses_weaker a b (AtMoment n events a.images) (IsSoundImage n) passes.time
-        (λ c w. brought (answered w.front ∷ w.earlier) w.reached.0 c (sound.images w.reached.0 w.reached.1) w.reached.2);
+        (λ c w. sound_after n (answered w.front ∷ w.earlier)
+        (careful_part n [] w.later w.earlier (subst (λ (l : Events). AreCareful n [] l) w.parts careful)) w.reached.0 c w.reached.2
+        (sound.images w.reached.0 w.reached.1));
     now = record {
-      images = λ c now. let from = passes.images c now in brought events from.0 c (sound.images from.0 from.1) from.2;
-      as_read = brought events a.as_read b.as_read sound.as_read passes.as_read;
+      images = λ c now. let from = passes.images c now in sound_after n events careful from.0 c from.2 (sound.images from.0 from.1);
+      as_read = sound_after n events careful a.as_read b.as_read passes.as_read sound.as_read;
     };
   }

@@ -1,9 +1,10 @@
 -- A run, request by request.
 use Rattle.std.proofs.Common.{◌≡◌, ◌⊎◌, ℕ, ◌+◌, ◌<◌, Bool, true, false, cond, eqb, List, [], ◌∷◌, ◌++◌, length, Option, Some, None, IfSome, Result, Ok, Err, refl, inl, sym, ◌∙◌, ap, subst, ⊎_elim, append_assoc, arith}
 use Rattle.std.proofs.lemmas.Bool.{eqb-true}
+use Rattle.s3r_world.specs.declared.world.Side.TheVariants as side
 use Rattle.s3r_world.specs.Outside.{Outside, Counts, NoneFalls, Rises, KeepsVolumes}
 use Rattle.s3r_world.specs.Image.{Image}
-use Rattle.s3r_world.specs.Moments.{falls_then, rises_before, rises_then}
+use Rattle.s3r_world.specs.Moments.{falls_then, rises_none, rises_before, rises_then}
 use Rattle.s3r_store.specs.declared.store.Store.{Store}
 use Rattle.s3r_desk.specs.declared.fault.DeskFault.TheVariants as faults
 use Rattle.s3r_desk.specs.Events.{answered, Events}
@@ -47,43 +48,50 @@ counted_with : (a b d : Counts) (turns : List Turn) (turn : Option Turn) → Are
 counted_with a b d turns None was falls = counted_later a b d turns was falls
 counted_with a b d turns (Some t) was here = (counted_later a b t.before turns was here.0, here.1)
 
-fails_volume : (u v : ℕ) (a b : Counts) → NoneFalls a b → Rises 1 (a.volume u) (b.volume u) → (t : Bool) → eqb u v ≡ t
-    → Rises (cond t 1 0) (a.volume v) (b.volume v)
-fails_volume u v a b falls rises true e = subst (λ (m : ℕ). Rises 1 (a.volume m) (b.volume m)) (eqb-true u v e) rises
-fails_volume u v a b falls rises false e = omega (arith, falls.volume v)
+fails_volume : (u v : ℕ) (a b : Counts) → NoneFalls a b → Rises 1 (side.Volume u) a b → (t : Bool) → eqb u v ≡ t
+    → Rises (cond t 1 0) (side.Volume v) a b
+fails_volume u v a b falls rises true e = subst (λ (m : ℕ). Rises 1 (side.Volume m) a b) (eqb-true u v e) rises
+fails_volume u v a b falls rises false e = rises_none (side.Volume v) a b falls
 
-fails_by : (v : ℕ) (outcome : Outcome) (a b : Counts) → NoneFalls a b → IsCounted outcome a b → Rises (fails_at v outcome) (a.volume v) (b.volume v)
-fails_by v (Ok (Ok x)) a b falls counted = omega (arith, falls.volume v)
+fails_by : (v : ℕ) (outcome : Outcome) (a b : Counts) → NoneFalls a b → IsCounted outcome a b → Rises (fails_at v outcome) (side.Volume v) a b
+fails_by v (Ok (Ok x)) a b falls counted = rises_none (side.Volume v) a b falls
 fails_by v (Ok (Err (faults.Volume u))) a b falls counted = fails_volume u v a b falls counted (eqb u v) refl
-fails_by v (Ok (Err (faults.Full u))) a b falls counted = omega (arith, falls.volume v)
-fails_by v (Ok (Err (faults.Damaged u offset))) a b falls counted = omega (arith, falls.volume v)
-fails_by v (Ok (Err faults.OutOfMemory)) a b falls counted = omega (arith, falls.volume v)
-fails_by v (Err problem) a b falls counted = omega (arith, falls.volume v)
+fails_by v (Ok (Err (faults.Full u))) a b falls counted = rises_none (side.Volume v) a b falls
+fails_by v (Ok (Err (faults.Damaged u offset))) a b falls counted = rises_none (side.Volume v) a b falls
+fails_by v (Ok (Err faults.OutOfMemory)) a b falls counted = rises_none (side.Volume v) a b falls
+fails_by v (Err problem) a b falls counted = rises_none (side.Volume v) a b falls
 
-fails_in_by : (v : ℕ) (occasion : Occasion) (a b : Counts) → NoneFalls a b → AreItsFaults occasion a b → Rises (fails_in v occasion) (a.volume v) (b.volume v)
+fails_in_by : (v : ℕ) (occasion : Occasion) (a b : Counts) → NoneFalls a b → AreItsFaults occasion a b → Rises (fails_in v occasion) (side.Volume v) a b
 fails_in_by v (request_came raw text outcome) a b falls counted = fails_by v outcome a b falls counted
 
+-- no count has fallen since the first
+falls_since : (n : ℕ) (room : ℕ → ℕ) (start : Image) (turns : List Turn) (a b : Counts) → AreTurns n room start turns → AreCounted a turns b → NoneFalls a b
+falls_since n room start [] a b right counted = counted
+falls_since n room start (t ∷ earlier) a b right counted = falls_then a t.before b (falls_since n room start earlier a t.before right.2 counted.0)
+    (falls_then t.before t.after b right.0.answered.counts counted.1)
+
 -- one turn more
-sum_one : (v by : ℕ) (t : Turn) (a b : Counts) → NoneFalls t.before t.after → AreItsFaults t.occasion t.before t.after → NoneFalls t.after b
-    → Rises by (a.volume v) (t.before.volume v)
-    → Rises (by + fails_in v t.occasion) (a.volume v) (b.volume v)
-sum_one v by t a b counts counted falls sum = rises_then by (fails_in v t.occasion) (a.volume v) (t.before.volume v) (b.volume v) sum
-    (rises_before (fails_in v t.occasion) (t.before.volume v) (t.after.volume v) (b.volume v) (fails_in_by v t.occasion t.before t.after counts counted)
-    (falls.volume v))
+sum_one : (v by : ℕ) (t : Turn) (a b : Counts) → NoneFalls a t.before → NoneFalls t.before t.after → AreItsFaults t.occasion t.before t.after
+    → NoneFalls t.after b → Rises by (side.Volume v) a t.before
+    → Rises (by + fails_in v t.occasion) (side.Volume v) a b
+sum_one v by t a b since counts counted falls sum = rises_then by (fails_in v t.occasion) (side.Volume v) a t.before b since sum
+    (rises_before (fails_in v t.occasion) (side.Volume v) t.before t.after b (fails_in_by v t.occasion t.before t.after counts counted) falls)
 
 sum_turns : (n : ℕ) (room : ℕ → ℕ) (start : Image) (turns : List Turn) (a b : Counts) (v : ℕ) → AreTurns n room start turns → AreCounted a turns b
-    → Rises (failures v turns) (a.volume v) (b.volume v)
-sum_turns n room start [] a b v right counted = omega (arith, counted.volume v)
+    → Rises (failures v turns) (side.Volume v) a b
+sum_turns n room start [] a b v right counted = rises_none (side.Volume v) a b counted
 sum_turns n room start (t ∷ earlier) a b v right counted =
-    sum_one v (failures v earlier) t a b right.0.answered.counts right.0.answered.counted counted.1
+    sum_one v (failures v earlier) t a b (falls_since n room start earlier a t.before right.2 counted.0)
+    right.0.answered.counts right.0.answered.counted counted.1
     (sum_turns n room start earlier a t.before v right.2 counted.0)
 
 sum_all : (n : ℕ) (room : ℕ → ℕ) (start : Image) (turns : List Turn) (turn : Option Turn) (a b : Counts) (v : ℕ) → AreTurns n room start turns
     → IfSome turn (IsRight n room start (events_of turns))
-    → AreCounted a (turns_with turn turns) b → Rises (failures v (turns_with turn turns)) (a.volume v) (b.volume v)
+    → AreCounted a (turns_with turn turns) b → Rises (failures v (turns_with turn turns)) (side.Volume v) a b
 sum_all n room start turns None a b v right final counted = sum_turns n room start turns a b v right counted
 sum_all n room start turns (Some t) a b v right final counted =
-    sum_one v (failures v turns) t a b final.answered.counts final.answered.counted counted.1 (sum_turns n room start turns a t.before v right counted.0)
+    sum_one v (failures v turns) t a b (falls_since n room start turns a t.before right counted.0)
+    final.answered.counts final.answered.counted counted.1 (sum_turns n room start turns a t.before v right counted.0)
 
 -- ---- one request more, or the end
 
@@ -189,7 +197,7 @@ served_none n room w a = record {
     rest_is = refl;
     ends = inl (omega arith, refl);
     counted = falls_none a;
-    faults = λ v. omega arith;
+    faults = λ v. rises_none (side.Volume v) a a (falls_none a);
   };
   connections = refl;
 }

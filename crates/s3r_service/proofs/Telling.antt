@@ -4,6 +4,7 @@ use Rattle.std.specs.declared.alloc.Global.{Global}
 use Rattle.std.specs.declared.alloc.AllocError.{AllocError}
 use Rattle.std.proofs.lemmas.List.{append-nil, take-append-drop}
 use Rattle.s3r_world.specs.Image.{Image}
+use Rattle.s3r_world.specs.declared.world.Side.TheVariants as side
 use Rattle.s3r_world.specs.Outside.{Outside, Counts, NoneFalls, KeepsVolumes}
 use Rattle.s3r_world.specs.Moments.{keeps_then, falls_then, rises_before}
 use Rattle.s3r_journal.proofs.Elsewhere.{left_keeps}
@@ -84,14 +85,14 @@ counted_by n (Err faults.OutOfMemory) a b cause = tt
 -- no count has fallen since
 counted_before : (outcome : Outcome) (a b d : Counts) → NoneFalls b d → IsCounted outcome a b → IsCounted outcome a d
 counted_before (Ok (Ok x)) a b d falls counted = tt
-counted_before (Ok (Err (faults.Volume u))) a b d falls counted = rises_before 1 (a.volume u) (b.volume u) (d.volume u) counted (falls.volume u)
+counted_before (Ok (Err (faults.Volume u))) a b d falls counted = rises_before 1 (side.Volume u) a b d counted falls
 counted_before (Ok (Err (faults.Full u))) a b d falls counted = tt
 counted_before (Ok (Err (faults.Damaged u offset))) a b d falls counted = tt
 counted_before (Ok (Err faults.OutOfMemory)) a b d falls counted = tt
 counted_before (Err problem) a b d falls counted = tt
 
 pub falls_none : (a : Counts) → NoneFalls a a
-falls_none a = record { volume = λ u. omega arith; input = omega arith; output = omega arith; door = omega arith }
+falls_none a = record { most = refl; volume = λ u. omega arith; input = omega arith; output = omega arith; door = omega arith }
 
 module _ (before : Events) (room : ℕ → ℕ) (raw : RawRequest) (result : Result (Vec ℕ Global) AllocError) (a b : List Store) (old new : Outside) (c d : Counts)
     (falls : NoneFalls c d) where

@@ -1,20 +1,32 @@
 -- What one run leaves to the next.
-use Rattle.std.specs.Prelude.{◌≡◌, ℕ, ◌<◌, List, [], ◌∷◌, ◌++◌}
+use Rattle.std.specs.Prelude.{◌≡◌, ◌⊎◌, ℕ, ◌<◌, List, [], ◌∷◌, ◌++◌, Option, IfSome}
 use Rattle.s3r_world.specs.Image.{Image}
 use Rattle.s3r_store.specs.Stands.{StandsFor}
 use Rattle.s3r_history.specs.Words.{History}
-use Rattle.s3r_desk.specs.Events.{Events, Leads}
+use Rattle.s3r_desk.specs.Events.{answered, Events, Leads}
 use Rattle.s3r_desk.specs.Progress.{IsLeft}
+use Rattle.s3r_desk.specs.Careful.{AreCareful}
 use Rattle.s3r_service.specs.Passing.{Brings}
+use Rattle.s3r_service.specs.Turns.{Turn, IsRight, AreTurns, events_of, events_in}
 use Rattle.s3r_service.specs.Served.{IsSoundImage}
 
--- volumes with no bytes stand for lawful histories
+-- volumes with no bytes stand for lawful histories that agree
 abbrev pub FreshIsSound : Type 0
 FreshIsSound = (n : ℕ) (c : Image) → ((r : ℕ) → r < n → c.volume r ≡ []) → IsSoundImage n c
 
--- and what a run brings does too, where its start does
+-- and what careful events bring does too, where their start does,
 abbrev pub SoundStays : Type 0
-SoundStays = (n : ℕ) (events : Events) (start c : Image) → Brings n events start c → IsSoundImage n start → IsSoundImage n c
+SoundStays = (n : ℕ) (events : Events) (start c : Image) → AreCareful n [] events → Brings n events start c → IsSoundImage n start
+    → IsSoundImage n c
+
+-- a run ended with nothing more, or with an answer's front
+abbrev pub IsClosing : Events → Type 0
+IsClosing closing = (closing ≡ []) ⊎ ((sent : List ℕ) × (closing ≡ answered sent ∷ []))
+
+-- as those of a run are.
+abbrev pub RunsAreCareful : Type 0
+RunsAreCareful = (n : ℕ) (room : ℕ → ℕ) (start : Image) (turns : List Turn) (final : Option Turn) (closing : Events) → AreTurns n room start turns
+    → IfSome final (IsRight n room start (events_of turns)) → IsClosing closing → AreCareful n [] ((closing ++ events_in final) ++ events_of turns)
 
 -- runs, the newest first, each by the events that had come to pass when it ended or was cut off
 abbrev pub Runs : Type 0

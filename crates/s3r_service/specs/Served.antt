@@ -1,11 +1,13 @@
 -- What a run has done, by how it ended.
-use Rattle.std.specs.Prelude.{◌≡◌, ◌≢◌, ◌⊎◌, ◌==◌, ℕ, ◌+◌, ◌<◌, ◌≤◌, true, false, List, [], ◌∷◌, ◌++◌, length, Option, Some, None, IfSome, IsSome, IsSomeAnd, Result, Ok, Err, IsTrue}
+use Rattle.std.specs.Prelude.{◌≡◌, ◌≢◌, ◌⊎◌, ◌==◌, ℕ, ◌<◌, ◌≤◌, true, false, List, [], ◌∷◌, ◌++◌, length, Option, Some, None, IfSome, IsSome, IsSomeAnd, Result, Ok, Err, IsTrue}
 use Rattle.std.specs.List.{list_any}
 use Rattle.s3r_world.specs.Image.{Image}
+use Rattle.s3r_world.specs.declared.world.Side.TheVariants as side
 use Rattle.s3r_world.specs.Outside.{Outside, Elapses, Counts, Rises}
 use Rattle.s3r_store.specs.Stands.{StandsFor}
-use Rattle.s3r_history.specs.Words.{History}
 use Rattle.s3r_desk.specs.Events.{Events, answered}
+use Rattle.s3r_desk.specs.Steps.{Histories}
+use Rattle.s3r_desk.specs.Careful.{AreAgreed}
 use Rattle.s3r_http.specs.declared.message.HttpFault.{HttpFault}
 use Rattle.s3r_http.specs.declared.message.HttpFault.TheVariants as http
 use Rattle.s3r_http.specs.declared.message.RawRequest.{RawRequest}
@@ -38,8 +40,8 @@ status_of (Err stop) = status_of_stop stop
 
 -- a fault of the input or the output ends the work only where it was counted
 abbrev pub HasCause : Stop → Counts → Counts → Type 0
-HasCause Input old new = Rises 1 old.input new.input
-HasCause Output old new = Rises 1 old.output new.output
+HasCause Input old new = Rises 1 side.Input old new
+HasCause Output old new = Rises 1 side.Output old new
 HasCause OutOfMemory old new = Unit {0}
 
 -- how a fault of reading a request that has no answer ends the work
@@ -101,16 +103,19 @@ pub record Conversation (n : ℕ) (room : ℕ → ℕ) (result : Result Ending S
   pub ends : IsEnd result (length turns) final closing rest left
   pub counted : AreCounted before (turns_with final turns) after
   -- an answer that a volume failed has its fault, each its own
-  pub faults : (v : ℕ) → Rises (failures v (turns_with final turns)) (before.volume v) (after.volume v)
+  pub faults : (v : ℕ) → Rises (failures v (turns_with final turns)) (side.Volume v) before after
 
 -- The input was served, and no connection was taken.
 pub record Served (n : ℕ) (room : ℕ → ℕ) (result : Result Ending Stop) (old new : Outside) (before after : Counts) : Type 0 where
   pub conversation : Conversation n room result old.input new.input old new before after
   pub connections : new.connections ≡ old.connections
 
--- each volume below n stands for a lawful history
-abbrev pub IsSoundImage : ℕ → Image → Type 0
-IsSoundImage n c = (r : ℕ) → r < n → (h : History) × StandsFor n r h (c.volume r)
+-- Each volume below n stands for a lawful history, and what each region received of another is what that one prescribed: in order,
+-- each once, up to its first pending task.
+pub record IsSoundImage (n : ℕ) (c : Image) : Type 0 where
+  pub at : Histories
+  pub stands : (r : ℕ) → r < n → StandsFor n r (at r) (c.volume r)
+  pub agree : AreAgreed n at
 
 -- so it is in each image, and in what is read
 pub record IsSound (n : ℕ) (w : Outside) : Type 0 where

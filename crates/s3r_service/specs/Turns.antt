@@ -1,6 +1,7 @@
 -- Turns, and what each came to.
 use Rattle.std.specs.Prelude.{◌≡◌, ℕ, ◌+◌, ◌==◌, Bool, false, List, [], ◌∷◌, ◌++◌, Option, Some, None, Result, Ok, Err, if◌then◌else◌}
 use Rattle.s3r_world.specs.Image.{Image}
+use Rattle.s3r_world.specs.declared.world.Side.TheVariants as side
 use Rattle.s3r_world.specs.Outside.{Counts, NoneFalls, Rises}
 use Rattle.s3r_store.specs.Stands.{StandsFor}
 use Rattle.s3r_desk.specs.declared.fault.DeskFault.{DeskFault}
@@ -48,7 +49,7 @@ IsStepOf n room before seen asked (Err problem) step = Fails problem asked × (s
 -- an outcome that is a volume's fault comes only where that volume's count has risen
 abbrev pub IsCounted : Outcome → Counts → Counts → Type 0
 IsCounted (Ok (Ok answer)) before after = Unit {0}
-IsCounted (Ok (Err (faults.Volume v))) before after = Rises 1 (before.volume v) (after.volume v)
+IsCounted (Ok (Err (faults.Volume v))) before after = Rises 1 (side.Volume v) before after
 IsCounted (Ok (Err (faults.Full v))) before after = Unit {0}
 IsCounted (Ok (Err (faults.Damaged v offset))) before after = Unit {0}
 IsCounted (Ok (Err faults.OutOfMemory)) before after = Unit {0}

@@ -3,6 +3,7 @@
 #![tactic(auto)]
 
 ghost use Rattle.std.specs.Prelude.{◌≡◌, ◌↔◌, map, string_bytes, Some, IsTrue};
+ghost use Rattle.s3r_world.specs.declared.world.Side.TheVariants as side;
 ghost use Rattle.s3r_world.specs.Outside.{KeepsShape, NoneFalls, Rises};
 ghost use Rattle.s3r_service.specs.Served.{Ran, IsSound, StaysSound, IsStatus};
 ghost use Rattle.s3r_service.specs.Words.{Meaning, AreMeant, words_in};
@@ -33,16 +34,18 @@ pub fn s3r<W: World>(alloc: Global, words: &[String], world: &mut W) -> u8
     // Which requests were taken, what each came to, and what a crash at each moment may leave.
     ensures done { IsTrue W.tells → (meaning : Meaning) → words_in (map string_bytes words.now) ≡ Some meaning →
         meaning.place.regions ≡ (W.shape world.old).volumes →
-        Ran meaning.task result (W.shape world.old).volumes (W.shape world.old).room (W.outside world.old) (W.outside world.new) (W.faults world.old) (W.faults world.new) }
+        Ran meaning.task result (W.shape world.old).volumes (W.shape world.old).room (W.outside world.old) (W.outside world.new)
+        (W.faults world.old) (W.faults world.new) }
 
-    // Volumes that stand for lawful histories do so after a crash at any moment.
+    // Volumes that stand for lawful histories which agree on what each region received of another do so after a crash at any
+    // moment.
     ensures sound { IsTrue W.tells → AreMeant (map string_bytes words.now) ((W.shape world.old).volumes)
         → IsSound (W.shape world.old).volumes (W.outside world.old) →
         StaysSound (W.shape world.old).volumes (W.outside world.old) (W.outside world.new) }
 
     // Each fault of the outside was counted.
-    ensures input { result ≡ 3 → Rises 1 (W.faults world.old).input (W.faults world.new).input }
-    ensures output { result ≡ 4 → Rises 1 (W.faults world.old).output (W.faults world.new).output }
+    ensures input { result ≡ 3 → Rises 1 side.Input (W.faults world.old) (W.faults world.new) }
+    ensures output { result ≡ 4 → Rises 1 side.Output (W.faults world.old) (W.faults world.new) }
 
     ensures counts { NoneFalls (W.faults world.old) (W.faults world.new) }
     ensures goes { W.goes world.old world.new }

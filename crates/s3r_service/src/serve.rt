@@ -46,7 +46,8 @@ fn reply_to<W: World>(
     requires tied { IsTrue W.tells → AreTied desk.old.stores.items (W.outside world.old) }
     requires small { length raw.now.body ≤ 4194304 }
     ensures told { IsTrue W.tells → (before : Events) → Keeps before desk.old.stores.items (W.outside world.old) →
-        Replies (length desk.old.stores.items) (W.shape world.old).room before raw.now result desk.new.stores.items (W.outside world.old) (W.outside world.new) (W.faults world.old) (W.faults world.new) }
+        Replies (length desk.old.stores.items) (W.shape world.old).room before raw.now result desk.new.stores.items
+        (W.outside world.old) (W.outside world.new) (W.faults world.old) (W.faults world.new) }
     ensures count { length desk.new.stores.items ≡ length desk.old.stores.items }
     ensures numbered { AreNumbered desk.new.stores.items }
     ensures counts { NoneFalls (W.faults world.old) (W.faults world.new) }
@@ -76,7 +77,8 @@ fn answer_one<W: World>(
     requires tied { IsTrue W.tells → AreTied desk.old.stores.items (W.outside world.old) }
     requires small { length raw.now.body ≤ 4194304 }
     ensures told { IsTrue W.tells → (before : Events) → Keeps before desk.old.stores.items (W.outside world.old) →
-        AnswersOne (length desk.old.stores.items) (W.shape world.old).room before raw.now result desk.new.stores.items (W.outside world.old) (W.outside world.new) (W.faults world.old) (W.faults world.new) }
+        AnswersOne (length desk.old.stores.items) (W.shape world.old).room before raw.now result desk.new.stores.items
+        (W.outside world.old) (W.outside world.new) (W.faults world.old) (W.faults world.new) }
     ensures count { length desk.new.stores.items ≡ length desk.old.stores.items }
     ensures numbered { AreNumbered desk.new.stores.items }
     ensures stop { IfErr result (λ stop. (stop ≡ Stop.Output) ⊎ (stop ≡ Stop.OutOfMemory)) }
@@ -109,8 +111,9 @@ fn serve_one<W: World>(
     requires numbered { AreNumbered desk.old.stores.items }
     requires tied { IsTrue W.tells → AreTied desk.old.stores.items (W.outside world.old) }
     ensures told { IsTrue W.tells → (before : Events) → Keeps before desk.old.stores.items (W.outside world.old) →
-        Serves (length desk.old.stores.items) (W.shape world.old).room before result (buffer.old ++ (W.outside world.old).input) (buffer.new ++ (W.outside world.new).input) (W.outside world.new).input
-        desk.new.stores.items (W.outside world.old) (W.outside world.new) (W.faults world.old) (W.faults world.new) }
+        Serves (length desk.old.stores.items) (W.shape world.old).room before result (buffer.old ++ (W.outside world.old).input)
+        (buffer.new ++ (W.outside world.new).input) (W.outside world.new).input desk.new.stores.items
+        (W.outside world.old) (W.outside world.new) (W.faults world.old) (W.faults world.new) }
     ensures count { length desk.new.stores.items ≡ length desk.old.stores.items }
     ensures numbered { AreNumbered desk.new.stores.items }
     ensures cause { IfErr result (λ stop. HasCause stop (W.faults world.old) (W.faults world.new)) }

@@ -1,6 +1,7 @@
 -- What a commit does.
 use Rattle.std.specs.Prelude.{◌≡◌, ◌⊎◌, ℕ, ◌+◌, ◌<◌, ◌≤◌, Bool, true, false, IsTrue, List, ◌∷◌, ◌++◌, length, Some, None, Result, Ok, Err}
 use Rattle.s3r_world.specs.Image.{OnVolume, Reached, Follows}
+use Rattle.s3r_world.specs.declared.world.Side.TheVariants as side
 use Rattle.s3r_world.specs.Outside.{Outside, Elapses, KeepsInput, Counts, Rises}
 use Rattle.s3r_record.specs.declared.command.Command.{Command}
 use Rattle.s3r_record.specs.Spelling.{spelling, frame}
@@ -59,7 +60,7 @@ abbrev pub IsCause : {A : Type 0} → ℕ → Result A StoreFault → Counts →
 IsCause v (Ok x) old new = Unit {0}
 IsCause v (Err (faults.Refused f)) old new = Unit {0}
 IsCause v (Err (faults.Full u)) old new = u ≡ v
-IsCause v (Err (faults.Volume u)) old new = (u ≡ v) × Rises 1 (old.volume v) (new.volume v)
+IsCause v (Err (faults.Volume u)) old new = (u ≡ v) × Rises 1 (side.Volume v) old new
 IsCause v (Err (faults.Damaged u offset)) old new = ⊥
 IsCause v (Err faults.OutOfMemory) old new = Unit {0}
 

@@ -1,5 +1,6 @@
 -- What reading a volume tells.
 use Rattle.std.specs.Prelude.{◌≡◌, ℕ, List, ◌∷◌, None, Result, Ok, Err}
+use Rattle.s3r_world.specs.declared.world.Side.TheVariants as side
 use Rattle.s3r_world.specs.Outside.{Counts, Rises}
 use Rattle.s3r_record.specs.declared.command.Command.{Command}
 use Rattle.s3r_record.specs.Spelling.{spelling, IsCommand}
@@ -42,6 +43,6 @@ IsDamage n v bytes faults.OutOfMemory = Unit {0}
 abbrev pub HasCause : ℕ → StoreFault → Counts → Counts → Type 0
 HasCause v (faults.Refused f) old new = ⊥
 HasCause v (faults.Full u) old new = ⊥
-HasCause v (faults.Volume u) old new = (u ≡ v) × Rises 1 (old.volume v) (new.volume v)
+HasCause v (faults.Volume u) old new = (u ≡ v) × Rises 1 (side.Volume v) old new
 HasCause v (faults.Damaged u offset) old new = u ≡ v
 HasCause v faults.OutOfMemory old new = Unit {0}

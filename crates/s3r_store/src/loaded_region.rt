@@ -64,8 +64,8 @@ impl LoadedRegion {
         ensures end { OnOk result (self.new.end ≡ Some end) }
         ensures count { OnOk result (self.new.state.commands ≡ self.old.state.commands + 1) }
         ensures index { IfOk result (λ index. index ≡ self.new.state.commands) }
-        ensures region { self.new.state.region ≡ self.old.state.region }
-        ensures regions { self.new.state.regions ≡ self.old.state.regions }
+        ensures region { OnOk result (self.new.state.region ≡ self.old.state.region) }
+        ensures regions { OnOk result (self.new.state.regions ≡ self.old.state.regions) }
         ensures memory { IfErr result (λ fault. fault ≡ StoreFault.OutOfMemory) }
     {
         self.state.apply(alloc, command)?;

@@ -60,6 +60,7 @@ pub fn read_volume<W: World>(
 ) -> Result<LoadedRegion, StoreFault>
     requires volume { v < (W.shape world.old).volumes }
     requires region { v ≤ 7 }
+    requires some { 1 ≤ regions }
     ensures told { IsTrue W.tells → Looks (W.outside world.old) (W.outside world.new) }
     ensures known { IsTrue W.tells → IfOk result (λ held. IsKnown regions v held (W.outside world.new)) }
     ensures few { IfOk result (λ held. held.state.commands + 16 ≤ unwrap_or held.end 16) }
@@ -70,13 +71,13 @@ pub fn read_volume<W: World>(
     ensures shape { KeepsShape (W.shape world.old) (W.shape world.new) }
 {
     let mut window = Window::open(alloc, world, v)?;
-    let mut state = State::new(alloc, v as u8, regions);
+    let mut state = State::new(alloc, v as u8, regions)?;
     let mut from = FIRST;
     'records: loop {
         match scan_in(world, alloc, v, v as u8, from, &mut window)? {
             Scanned::Empty => {
                 return Ok(LoadedRegion {
-                    state: State::new(alloc, v as u8, regions),
+                    state: State::new(alloc, v as u8, regions)?,
                     end: None,
                 });
             }

@@ -4,7 +4,7 @@ ghost use Rattle.std.specs.Option.{ForSome};
 
 use crate::reading::read_volume;
 use crate::{LoadedRegion, StoreFault};
-use s3r_names::Bytes;
+use s3r_names::{Bytes, Kept};
 use s3r_record::Command;
 use s3r_region::State;
 use s3r_world::World;
@@ -86,6 +86,7 @@ impl Store {
     pub fn touch<W: World>(&mut self, alloc: Global, world: &mut W) -> Result<(), StoreFault>
         requires volume { self.old.v < (W.shape world.old).volumes }
         requires region { self.old.v ≤ 7 }
+        requires some { 1 ≤ self.old.regions }
         requires tied { IsTrue W.tells → Ties self.old (W.outside world.old) }
         ensures told { IsTrue W.tells → Looks (W.outside world.old) (W.outside world.new) }
         ensures holds { IsTrue W.tells → OnOk result ((h : History) × Holds self.new h (W.outside world.new)) }
@@ -156,13 +157,13 @@ impl Store {
         &mut self,
         alloc: Global,
         world: &mut W,
-        kept: &Bytes,
+        kept: &Kept,
     ) -> Result<Bytes, StoreFault>
         ensures bytes { IfOk result (λ bytes. bytes ≡ kept.now) }
         ensures fault { IfErr result (λ fault. fault ≡ StoreFault.OutOfMemory) }
         ensures world { world.new ≡ world.old }
         ensures store { self.new ≡ self.old }
     {
-        Ok(kept.clone()?)
+        Ok(Bytes::from_slice(alloc, kept.as_slice())?)
     }
 }

@@ -1,5 +1,6 @@
 //! Frames put behind what a volume has.
 ghost use Rattle.std.specs.Prelude.{◌≡◌, ◌⊎◌, ◌↔◌, ℕ, ◌+◌, ◌<◌, ◌≤◌, IsTrue, false, length, unwrap_or, IfOk, IfErr, IsErrOf, IsNone, IsSome, is_ok};
+ghost use Rattle.s3r_world.specs.declared.world.Side.TheVariants as side;
 ghost use Rattle.s3r_world.specs.Outside.{KeepsShape, NoneFalls, Rises};
 ghost use Rattle.s3r_journal.specs.Volume.{IsFrame, spelling_of};
 ghost use Rattle.s3r_journal.specs.Create.{Created};
@@ -29,7 +30,7 @@ fn opened<W: World>(world: &mut W, v: u32, end: Option<u64>) -> Result<u64, Appe
     ensures made { IsTrue W.tells → IsNone end → Created v v (is_ok result) (W.outside world.old) (W.outside world.new) }
     ensures there { IsSome end → world.new ≡ world.old }
     ensures end { IfOk result (λ e. e ≡ unwrap_or end 16) }
-    ensures fault { IfErr result (λ e. (e ≡ AppendFault.Volume v) × Rises 1 ((W.faults world.old).volume v) ((W.faults world.new).volume v)) }
+    ensures fault { IfErr result (λ e. (e ≡ AppendFault.Volume v) × Rises 1 (side.Volume v) (W.faults world.old) (W.faults world.new)) }
     ensures counts { NoneFalls (W.faults world.old) (W.faults world.new) }
     ensures goes { W.goes world.old world.new }
     ensures shape { KeepsShape (W.shape world.old) (W.shape world.new) }
@@ -62,7 +63,7 @@ pub fn write<W: World>(
     ensures small { IfOk result (λ e. e < 268435456) }
     ensures full_unchanged { IsErrOf result (AppendFault.VolumeFull v) → world.new ≡ world.old }
     ensures fault { IfErr result (λ e. (e ≡ AppendFault.VolumeFull v) ⊎ ((e ≡ AppendFault.Volume v)
-        × Rises 1 ((W.faults world.old).volume v) ((W.faults world.new).volume v))) }
+        × Rises 1 (side.Volume v) (W.faults world.old) (W.faults world.new))) }
     ensures counts { NoneFalls (W.faults world.old) (W.faults world.new) }
     ensures goes { W.goes world.old world.new }
     ensures shape { KeepsShape (W.shape world.old) (W.shape world.new) }

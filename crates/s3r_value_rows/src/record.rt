@@ -6,7 +6,7 @@ use crate::cells::Cells;
 use crate::fault::Fault;
 use crate::texts::{id_text, set_text, truth};
 use s3r_names::{BucketName, Bytes, ClassName, Key, TagSet, VersionId};
-use s3r_record::{Command, decode, encode, fits_record};
+use s3r_record::{Command, Effect, decode, encode, fits_record};
 use s3r_rules::Config;
 use s3r_rules_json::{print_config, read_config};
 use std::alloc::{AllocError, Global};
@@ -112,6 +112,68 @@ fn key_fields(alloc: Global, command: &Command) -> Result<String, AllocError> {
     }
 }
 
+/// What every effect says: its kind, its buckets, its version, and the clock's number that it carries first.
+fn effect_fields(
+    alloc: Global,
+    kind: &str,
+    buckets: (&BucketName, &BucketName),
+    key: &Key,
+    id: VersionId,
+    n: u64,
+) -> Result<String, AllocError> {
+    let from = buckets.0.as_str();
+    let to = buckets.1.as_str();
+    let key = key.as_str();
+    let id = id_text(alloc, Some(id))?;
+    format!(in alloc; "{kind} {from}, {to}, {key}, {id}, {n}")
+}
+
+fn effect_text(alloc: Global, effect: &Effect<Bytes>) -> Result<String, AllocError> {
+    match effect {
+        Effect::Replica {
+            from,
+            to,
+            key,
+            id,
+            n,
+            ..
+        } => effect_fields(alloc, "Replica", (from, to), key, *id, *n),
+        Effect::Marker {
+            from,
+            to,
+            key,
+            id,
+            n,
+        } => effect_fields(alloc, "Marker", (from, to), key, *id, *n),
+        Effect::Tags {
+            from,
+            to,
+            key,
+            id,
+            stamp,
+            ..
+        } => effect_fields(alloc, "Tags", (from, to), key, *id, stamp.n),
+        Effect::Hold {
+            from,
+            to,
+            key,
+            id,
+            stamp,
+            ..
+        } => effect_fields(alloc, "Hold", (from, to), key, *id, stamp.n),
+    }
+}
+
+fn receive_text(
+    alloc: Global,
+    from: u8,
+    number: u64,
+    effect: &Effect<Bytes>,
+) -> Result<String, AllocError> {
+    let effect = effect_text(alloc, effect)?;
+    format!(in alloc; "Receive {from}, {number}, {effect}")
+}
+
 /// A command's name and its fields in order.
 fn command_text(alloc: Global, command: &Command) -> Result<String, AllocError> {
     let fields = key_fields(alloc, command)?;
@@ -135,6 +197,17 @@ fn command_text(alloc: Global, command: &Command) -> Result<String, AllocError> 
         Command::Remove { bucket, key, .. } => of_key(alloc, "Remove", bucket, key, fields),
         Command::SetTags { bucket, key, .. } => of_key(alloc, "SetTags", bucket, key, fields),
         Command::SetHold { bucket, key, .. } => of_key(alloc, "SetHold", bucket, key, fields),
+        Command::Receive {
+            from,
+            number,
+            effect,
+        } => receive_text(alloc, *from, *number, effect),
+        Command::Settle {
+            to,
+            number,
+            outcome,
+        } => format!(in alloc; "Settle {to}, {number}, {outcome:?}"),
+        Command::Attempt { to, number } => format!(in alloc; "Attempt {to}, {number}"),
     }
 }
 

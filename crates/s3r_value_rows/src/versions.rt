@@ -18,6 +18,7 @@ fn row_of(alloc: Global, step: &Step<'_>, marker: bool) -> Result<Row<u8>, Fault
         key,
         id,
         n: stamp.n,
+        place: stamp.index,
         marker,
         body: 0,
         length: 0,

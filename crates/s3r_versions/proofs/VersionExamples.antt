@@ -14,6 +14,7 @@ version key n region index = record {
   key = key;
   id = record { region = region; index = index };
   n = n;
+  place = index;
   marker = false;
   body = codes "hi";
   length = 2;

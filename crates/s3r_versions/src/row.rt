@@ -22,6 +22,8 @@ pub struct Row<B> {
     pub id: VersionId,
     /// The clock's number when it was first written.
     pub n: u64,
+    /// The index of the command that added it here.
+    pub place: u64,
     pub marker: bool,
     pub body: B,
     pub length: u32,

@@ -1,8 +1,8 @@
 -- A plan by which nothing fails.
 use Rattle.std.proofs.Common.{◌≡◌, ℕ, zero, suc, ◌-◌, ◌||◌, false, List, [], ◌∷◌, slice_index, slice_set, refl, arith}
 use Rattle.s3r_world.specs.declared.plan.FaultPlan.{FaultPlan}
-use Rattle.s3r_world.specs.declared.plan.Side.{Side}
-use Rattle.s3r_world.specs.declared.plan.Side.TheVariants.{Volume, Input, Output, Door}
+use Rattle.s3r_world.specs.declared.world.Side.{Side}
+use Rattle.s3r_world.specs.declared.world.Side.TheVariants.{Volume, Input, Output, Door}
 use Rattle.s3r_world.specs.Planned.{next_of, is_after, is_at, after_call, IsQuiet}
 
 -- zeros with one place made 0 are zeros

@@ -1,6 +1,15 @@
 -- How the failures of a world are counted.
-use Rattle.std.specs.Prelude.{◌≡◌, ℕ}
+use Rattle.std.specs.Prelude.{◌≡◌, ℕ, ◌-◌, ◌^◌, Some, slice_index}
+use Rattle.s3r_world.specs.declared.counters.Counters.{Counters}
 use Rattle.s3r_world.specs.Outside.{Counts}
+
+-- the number at which a counter stays
+abbrev pub most_counted : ℕ
+most_counted = 2 ^ 64 - 1
+
+-- how often each side has failed, by a world's counters
+abbrev pub counts_of : Counters → Counts
+counts_of c = record { volume = λ v. slice_index c.volumes.items v; input = c.input; output = c.output; door = c.door; most = Some most_counted }
 
 -- no side has failed
 pub record IsFaultless (counts : Counts) : Type 0 where

@@ -1,14 +1,13 @@
 -- What a world in memory shows.
-use Rattle.std.specs.Prelude.{◌≡◌, ◌⊎◌, ℕ, ◌<◌, ◌≤◌, IsTrue, List, map, drop, reverse, Vec, Result, IsErr, OnErr, slice_index, vec_len}
+use Rattle.std.specs.Prelude.{◌≡◌, ◌⊎◌, ℕ, ◌<◌, ◌≤◌, IsTrue, List, map, drop, reverse, Vec, Some, Result, IsErr, OnErr, vec_len}
 use Rattle.std.specs.declared.alloc.Global.{Global}
 use Rattle.s3r_world.specs.declared.disk.Event.{Event}
 use Rattle.s3r_world.specs.declared.plan.FaultPlan.{FaultPlan}
-use Rattle.s3r_world.specs.declared.plan.Side.{Side}
-use Rattle.s3r_world.specs.declared.plan.Side.TheVariants as side
+use Rattle.s3r_world.specs.declared.world.Side.{Side}
 use Rattle.s3r_world.specs.declared.memory.MemoryWorld.{MemoryWorld}
 use Rattle.s3r_world.specs.Image.{Image, OnVolume, Reached, Follows}
-use Rattle.s3r_world.specs.Outside.{Shape, KeepsShape, Counts, Outside, Elapses, KeepsInput, Rises}
-use Rattle.s3r_world.specs.Counting.{IsFaultless, SameCounts}
+use Rattle.s3r_world.specs.Outside.{Shape, KeepsShape, Counts, HasRisen, Outside, Elapses, KeepsInput}
+use Rattle.s3r_world.specs.Counting.{most_counted, counts_of, IsFaultless, SameCounts}
 use Rattle.s3r_world.specs.Events.{outside_after}
 use Rattle.s3r_world.specs.Planned.{is_planned, after_call, nothing_planned}
 
@@ -33,14 +32,7 @@ shape_of w = record { volumes = vec_len w.disk.volumes; room = λ _. w.room }
 
 -- how often each side has failed
 abbrev pub faults_of : MemoryWorld → Counts
-faults_of w = record { volume = λ v. slice_index w.counts.volumes.items v; input = w.counts.input; output = w.counts.output; door = w.counts.door }
-
--- how often one side has failed
-abbrev pub count_of : Side → Counts → ℕ
-count_of (side.Volume v) counts = counts.volume v
-count_of side.Input counts = counts.input
-count_of side.Output counts = counts.output
-count_of side.Door counts = counts.door
+faults_of w = counts_of w.counts
 
 -- which of its calls are to fail, and how many there were
 abbrev pub plan_of : MemoryWorld → FaultPlan
@@ -50,7 +42,7 @@ plan_of w = w.plan
 abbrev pub calls_of : MemoryWorld → ℕ
 calls_of w = w.plan.calls
 
--- how often a call found no memory. It stays at 2^64 - 1
+-- how often a call found no memory. It stays at 2^64 - 1, as the counts of failures do
 abbrev pub starved_of : MemoryWorld → ℕ
 starved_of w = w.starved
 
@@ -87,7 +79,7 @@ pub record Places (v : ℕ) (bytes : List ℕ) (old new : Outside) : Type 0 wher
 pub record Plays {T E : Type 0} (side : Side) (result : Result T E) (old new : MemoryWorld) : Type 0 where
   pub plan : plan_of new ≡ after_call side (plan_of old)
   pub planned : IsTrue (is_planned (plan_of old) side) → IsErr result
-  pub other : OnErr result (IsTrue (is_planned (plan_of old) side) ⊎ Rises 1 (starved_of old) (starved_of new))
+  pub other : OnErr result (IsTrue (is_planned (plan_of old) side) ⊎ HasRisen (Some most_counted) 1 (starved_of old) (starved_of new))
   pub starved : starved_of old ≤ starved_of new
   pub piece : piece_of new ≡ piece_of old
 

@@ -1,8 +1,10 @@
 -- How a run of calls goes on.
-use Rattle.std.specs.Prelude.{ℕ, ◌+◌, ◌≤◌, List}
-use Rattle.std.proofs.Common.{inl, inr, ⊎_elim, ◌∙◌, arith}
+use Rattle.std.specs.Prelude.{ℕ, ◌+◌, ◌≤◌, List, Option, Some, None}
+use Rattle.std.proofs.Common.{inl, inr, ⊎_elim, ◌∙◌, subst, arith}
 use Rattle.s3r_world.specs.Image.{Image, OnVolume, Reached, Follows}
-use Rattle.s3r_world.specs.Outside.{Shape, KeepsShape, Counts, NoneFalls, Rises, Outside, Elapses, KeepsInput, KeepsVolumes, Looks}
+use Rattle.s3r_world.specs.declared.world.Side.{Side}
+use Rattle.s3r_world.specs.declared.world.Side.TheVariants as side
+use Rattle.s3r_world.specs.Outside.{Shape, KeepsShape, Counts, count_of, NoneFalls, HasRisen, Rises, Outside, Elapses, KeepsInput, KeepsVolumes, Looks}
 
 -- before the first call
 pub elapses_none : (w : Outside) (P : Image → Type 0) → Elapses w w P
@@ -73,19 +75,52 @@ volumes_then a b d first second = record {
 
 pub falls_then : (a b d : Counts) → NoneFalls a b → NoneFalls b d → NoneFalls a d
 falls_then a b d first second = record {
+  most = second.most ∙ first.most;
   volume = λ u. omega (arith, first.volume u, second.volume u);
   input = omega (arith, first.input, second.input);
   output = omega (arith, first.output, second.output);
   door = omega (arith, first.door, second.door);
 }
 
--- a count that has risen, and hasn't fallen since or before
-pub rises_before : (by a b c : ℕ) → Rises by a b → b ≤ c → Rises by a c
-rises_before by a b c rises le = omega (arith, rises, le)
+-- one side's count, where none has fallen
+falls_at : (side : Side) (a b : Counts) → NoneFalls a b → count_of side a ≤ count_of side b
+falls_at (side.Volume v) a b falls = falls.volume v
+falls_at side.Input a b falls = falls.input
+falls_at side.Output a b falls = falls.output
+falls_at side.Door a b falls = falls.door
 
-pub rises_after : (by a b c : ℕ) → a ≤ b → Rises by b c → Rises by a c
-rises_after by a b c le rises = omega (arith, le, rises)
+-- a count hasn't fallen
+risen_none : (most : Option ℕ) (a b : ℕ) → a ≤ b → HasRisen most 0 a b
+risen_none None a b le = omega (arith, le)
+risen_none (Some most) a b le = omega (arith, le)
 
--- a count that has risen twice
-pub rises_then : (m n a b c : ℕ) → Rises m a b → Rises n b c → Rises (m + n) a c
-rises_then m n a b c first second = omega (arith, first, second)
+-- it has risen, and hasn't fallen since or before
+risen_before : (most : Option ℕ) (by a b c : ℕ) → HasRisen most by a b → b ≤ c → HasRisen most by a c
+risen_before None by a b c rises le = omega (arith, rises, le)
+risen_before (Some most) by a b c rises le = omega (arith, rises, le)
+
+risen_after : (most : Option ℕ) (by a b c : ℕ) → a ≤ b → HasRisen most by b c → HasRisen most by a c
+risen_after None by a b c le rises = omega (arith, le, rises)
+risen_after (Some most) by a b c le rises = omega (arith, le, rises)
+
+-- it has risen twice
+risen_then : (most : Option ℕ) (m n a b c : ℕ) → HasRisen most m a b → HasRisen most n b c → HasRisen most (m + n) a c
+risen_then None m n a b c first second = omega (arith, first, second)
+risen_then (Some most) m n a b c first second = omega (arith, first, second)
+
+-- no count has fallen
+pub rises_none : (side : Side) (a b : Counts) → NoneFalls a b → Rises 0 side a b
+rises_none side a b falls = risen_none a.most (count_of side a) (count_of side b) (falls_at side a b falls)
+
+-- a side's count has risen, and none has fallen since or before
+pub rises_before : (by : ℕ) (side : Side) (a b c : Counts) → Rises by side a b → NoneFalls b c → Rises by side a c
+rises_before by side a b c rises falls = risen_before a.most by (count_of side a) (count_of side b) (count_of side c) rises (falls_at side b c falls)
+
+pub rises_after : (by : ℕ) (side : Side) (a b c : Counts) → NoneFalls a b → Rises by side b c → Rises by side a c
+rises_after by side a b c falls rises = risen_after a.most by (count_of side a) (count_of side b) (count_of side c) (falls_at side a b falls)
+    (subst (λ (most : Option ℕ). HasRisen most by (count_of side b) (count_of side c)) falls.most rises)
+
+-- a side's count has risen twice
+pub rises_then : (m n : ℕ) (side : Side) (a b c : Counts) → NoneFalls a b → Rises m side a b → Rises n side b c → Rises (m + n) side a c
+rises_then m n side a b c falls first second = risen_then a.most m n (count_of side a) (count_of side b) (count_of side c) first
+    (subst (λ (most : Option ℕ). HasRisen most n (count_of side b) (count_of side c)) falls.most second)

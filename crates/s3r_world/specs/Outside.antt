@@ -1,6 +1,8 @@
 -- What a world holds, and what each of its calls does to it.
-use Rattle.std.specs.Prelude.{◌≡◌, ◌⊎◌, ◌↔◌, ℕ, ◌+◌, ◌-◌, ◌≤◌, ◌^◌, min, Bool, true, IsTrue, List, [], ◌∷◌, ◌++◌, length, take, drop, Result, IfOk, IfErr, OnErr}
+use Rattle.std.specs.Prelude.{◌≡◌, ◌⊎◌, ◌↔◌, ℕ, ◌+◌, ◌≤◌, min, Bool, true, IsTrue, List, [], ◌∷◌, ◌++◌, length, take, drop, Option, Some, None, Result, IfOk, IfErr, OnErr}
 use Rattle.s3r_world.specs.Image.{Image, Holds, Torn, OnVolume, Puts, Reached, Follows, NoMore}
+use Rattle.s3r_world.specs.declared.world.Side.{Side}
+use Rattle.s3r_world.specs.declared.world.Side.TheVariants as side
 use Rattle.s3r_world.specs.declared.world.VolumeFault.{VolumeFault}
 use Rattle.s3r_world.specs.declared.world.InputFault.{InputFault}
 use Rattle.s3r_world.specs.declared.world.OutputFault.{OutputFault}
@@ -22,6 +24,15 @@ pub record Counts : Type 0 where
   pub input : ℕ
   pub output : ℕ
   pub door : ℕ
+  -- the number at which each of them stays, if there is one
+  pub most : Option ℕ
+
+-- how often one side has failed
+abbrev pub count_of : Side → Counts → ℕ
+count_of (side.Volume v) counts = counts.volume v
+count_of side.Input counts = counts.input
+count_of side.Output counts = counts.output
+count_of side.Door counts = counts.door
 
 -- all that a world holds, at a moment of its clock
 pub record Outside : Type 1 where
@@ -111,11 +122,22 @@ pub record Connects (result : Result Bool DoorFault) (old new : Outside) : Type 
   pub err : OnErr result (Comes old new ⊎ KeepsInput old new)
   pub volumes : KeepsVolumes old new
 
--- the count has risen by at least so many; at 2^64 - 1 it stays, and counts as risen by any number
-abbrev pub Rises : ℕ → ℕ → ℕ → Type 0
-Rises by old new = min (old + by) (2 ^ 64 - 1) ≤ new
+-- what a count shows of so many failures, by the number at which it stays, if there is one
+abbrev pub shown : Option ℕ → ℕ → ℕ
+shown None failures = failures
+shown (Some most) failures = min failures most
 
+-- The count has risen by at least so many. Only one that stays at a number is excused: there it counts as risen by any.
+abbrev pub HasRisen : Option ℕ → ℕ → ℕ → ℕ → Type 0
+HasRisen most by old new = shown most (old + by) ≤ new
+
+-- the count of a side has risen by at least so many
+abbrev pub Rises : ℕ → Side → Counts → Counts → Type 0
+Rises by side old new = HasRisen old.most by (count_of side old) (count_of side new)
+
+-- no count has fallen, and the number at which they stay is the same
 pub record NoneFalls (old new : Counts) : Type 0 where
+  pub most : new.most ≡ old.most
   pub volume : (u : ℕ) → old.volume u ≤ new.volume u
   pub input : old.input ≤ new.input
   pub output : old.output ≤ new.output
@@ -124,16 +146,16 @@ pub record NoneFalls (old new : Counts) : Type 0 where
 -- a fault of volume v is told only where it was counted
 pub record VolumeCause {T : Type 0} (v : ℕ) (result : Result T VolumeFault) (old new : Counts) : Type 0 where
   pub counts : NoneFalls old new
-  pub fault : IfErr result (λ e. (e.0 ≡ v) × Rises 1 (old.volume v) (new.volume v))
+  pub fault : IfErr result (λ e. (e.0 ≡ v) × Rises 1 (side.Volume v) old new)
 
 pub record InputCause {T : Type 0} (result : Result T InputFault) (old new : Counts) : Type 0 where
   pub counts : NoneFalls old new
-  pub fault : OnErr result (Rises 1 old.input new.input)
+  pub fault : OnErr result (Rises 1 side.Input old new)
 
 pub record OutputCause {T : Type 0} (result : Result T OutputFault) (old new : Counts) : Type 0 where
   pub counts : NoneFalls old new
-  pub fault : OnErr result (Rises 1 old.output new.output)
+  pub fault : OnErr result (Rises 1 side.Output old new)
 
 pub record DoorCause {T : Type 0} (result : Result T DoorFault) (old new : Counts) : Type 0 where
   pub counts : NoneFalls old new
-  pub fault : OnErr result (Rises 1 old.door new.door)
+  pub fault : OnErr result (Rises 1 side.Door old new)

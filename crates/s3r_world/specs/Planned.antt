@@ -1,8 +1,8 @@
 -- Which calls of a world in memory are to fail.
 use Rattle.std.specs.Prelude.{◌≡◌, ℕ, ◌+◌, ◌-◌, ◌^◌, min, nat_lt, ◌==◌, ◌||◌, Bool, false, [], ◌∷◌, Option, Some, None, slice_index, slice_set}
 use Rattle.s3r_world.specs.declared.plan.FaultPlan.{FaultPlan}
-use Rattle.s3r_world.specs.declared.plan.Side.{Side}
-use Rattle.s3r_world.specs.declared.plan.Side.TheVariants.{Volume, Input, Output, Door}
+use Rattle.s3r_world.specs.declared.world.Side.{Side}
+use Rattle.s3r_world.specs.declared.world.Side.TheVariants.{Volume, Input, Output, Door}
 
 -- no call has been made, and none is to fail
 abbrev pub nothing_planned : FaultPlan

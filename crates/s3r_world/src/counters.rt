@@ -1,6 +1,7 @@
 //! How often each side of a world has failed. A count stays at its greatest number.
-ghost use Rattle.std.specs.Prelude.{◌≡◌, ℕ, ◌<◌, ◌≤◌, length, slice_index, vec_len};
-ghost use Rattle.s3r_world.specs.Outside.{Rises};
+ghost use Rattle.std.specs.Prelude.{◌≡◌, ℕ, ◌<◌, ◌≤◌, length, Some, slice_index, vec_len};
+ghost use Rattle.s3r_world.specs.Counting.{most_counted};
+ghost use Rattle.s3r_world.specs.Outside.{HasRisen};
 
 use crate::world::VolumeFault;
 
@@ -17,7 +18,7 @@ pub struct Counters {
 fn count_at(counts: &mut [u64], v: u32)
     requires { v < length counts.old }
     ensures none_falls { (u : ℕ) → slice_index counts.old u ≤ slice_index counts.new u }
-    ensures rises { Rises 1 (slice_index counts.old v) (slice_index counts.new v) }
+    ensures rises { HasRisen (Some most_counted) 1 (slice_index counts.old v) (slice_index counts.new v) }
 {
     counts[v as usize] = counts[v as usize].saturating_add(1);
 }
@@ -25,7 +26,7 @@ fn count_at(counts: &mut [u64], v: u32)
 /// Counts a failure.
 pub fn count_one(count: &mut u64)
     ensures none_falls { count.old ≤ count.new }
-    ensures rises { Rises 1 count.old count.new }
+    ensures rises { HasRisen (Some most_counted) 1 count.old count.new }
 {
     *count = count.saturating_add(1);
 }
@@ -53,7 +54,7 @@ impl Counters {
         requires { v < vec_len self.old.volumes }
         ensures fault { result.0 ≡ v }
         ensures none_falls { (u : ℕ) → slice_index self.old.volumes.items u ≤ slice_index self.new.volumes.items u }
-        ensures rises { Rises 1 (slice_index self.old.volumes.items v) (slice_index self.new.volumes.items v) }
+        ensures rises { HasRisen (Some most_counted) 1 (slice_index self.old.volumes.items v) (slice_index self.new.volumes.items v) }
         ensures volumes { vec_len self.new.volumes ≡ vec_len self.old.volumes }
         ensures input { self.new.input ≡ self.old.input }
         ensures output { self.new.output ≡ self.old.output }

@@ -14,7 +14,6 @@ mod world;
 
 pub use disk::Event;
 pub use memory::{MemoryWorld, OutOfMemory};
-pub use plan::Side;
 pub use real::RealWorld;
 pub use replay::Pick;
-pub use world::{DoorFault, InputFault, OutputFault, VolumeFault, World};
+pub use world::{DoorFault, InputFault, OutputFault, Side, VolumeFault, World};

@@ -4,9 +4,9 @@ ghost use Rattle.std.specs.declared.alloc.Global.{Global};
 
 use crate::counters::{Counters, count_one};
 use crate::disk::{Disk, fill};
-use crate::plan::{FaultPlan, Side};
+use crate::plan::FaultPlan;
 use crate::replay::Pick;
-use crate::world::{DoorFault, InputFault, OutputFault, VolumeFault, World};
+use crate::world::{DoorFault, InputFault, OutputFault, Side, VolumeFault, World};
 use std::alloc::{AllocError, AllocFailed, Global};
 
 // The current input, of which so many bytes have been taken, and the connections still to come.
@@ -273,9 +273,10 @@ pub(crate) fn zeros(alloc: Global, count: u32) -> Result<Vec<u64>, AllocError>
 
 impl MemoryWorld {
     ghost use Rattle.s3r_world.specs.Image.{Image};
+    ghost use Rattle.s3r_world.specs.Outside.{count_of};
     ghost use Rattle.s3r_world.specs.Events.{picked};
     ghost use Rattle.s3r_world.specs.Planned.{with_next, with_stop, with_one};
-    ghost use Rattle.s3r_world.specs.Memory.{shape_of, outside_of, story_of, input_of, connections_of, plan_of, faults_of, count_of, calls_of, starved_of, piece_of, IsNew, HoldsOnly, KeepsRest, Places, with_plan};
+    ghost use Rattle.s3r_world.specs.Memory.{shape_of, outside_of, story_of, input_of, connections_of, plan_of, faults_of, calls_of, starved_of, piece_of, IsNew, HoldsOnly, KeepsRest, Places, with_plan};
 
     // A world in which nothing has happened yet.
     fn over(

@@ -1,18 +1,7 @@
 //! Which calls of a world in memory are to fail.
 ghost use Rattle.std.specs.Prelude.{◌≡◌, ◌||◌, false};
 
-/// What calls of a world in memory may be planned to fail.
-#[derive(Clone, Copy, Debug, PartialEq, Eq)]
-pub enum Side {
-    /// `size`, `read`, `write_at` and `sync` of the volume with this number.
-    Volume(u32),
-    /// `take`.
-    Input,
-    /// `emit`.
-    Output,
-    /// `next_connection`.
-    Door,
-}
+use crate::world::Side;
 
 /// How many volumes a world in memory has at most.
 pub(crate) const MOST_VOLUMES: u32 = 8;

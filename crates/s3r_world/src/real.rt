@@ -1,6 +1,6 @@
 //! A world of files and standard streams. It tells nothing of what they hold.
 ghost use Rattle.std.specs.Prelude.{◌≡◌, ◌≤◌, ◌<◌, length, slice_index, vec_len, false, IfOk};
-ghost use Rattle.s3r_world.specs.Counting.{IsFaultless};
+ghost use Rattle.s3r_world.specs.Counting.{IsFaultless, counts_of};
 ghost use Rattle.s3r_world.specs.Outside.{Counts, Shape};
 ghost use Rattle.s3r_world.specs.Untold.{untold, not_told};
 
@@ -17,7 +17,9 @@ const ROOM: u64 = 268_435_456;
 /// then on. The input and the output are the standard ones, with no buffer between, and no connections come.
 ///
 /// Each error of the system is a fault of its side, want of memory for a path among them, and a write that takes
-/// nothing. This is the edge that is trusted: its clauses count faults and bound results, and tell nothing of what
+/// nothing. The counts of failures stay at 2^64 - 1, as those of the world in memory do.
+///
+/// This is the edge that is trusted: its clauses count faults and bound results, and tell nothing of what
 /// the files and the streams hold. It rests on the system that a sync which answers well has made durable all that
 /// was written to the file before, also where an earlier sync failed.
 #[derive(Drop)]
@@ -50,7 +52,7 @@ impl<R: Files + Input + Print + AllocGlobal + Drop> World for RealWorld<R> {
 
     ghost shape = { λ w. record { volumes = w.folder.volumes; room = λ _. 268435456 } };
 
-    ghost faults = { λ w. record { volume = λ u. slice_index w.counts.volumes.items u; input = w.counts.input; output = w.counts.output; door = w.counts.door } };
+    ghost faults = { λ w. counts_of w.counts };
 
     ghost outside = { λ _. untold };
 

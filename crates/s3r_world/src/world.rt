@@ -2,6 +2,19 @@
 ghost use Rattle.std.specs.Prelude.{◌≡◌, ◌≢◌, ℕ, ◌+◌, ◌-◌, ◌<◌, ◌≤◌, min, Bool, IsTrue, List, ◌++◌, length, take, drop, IfOk, is_ok};
 ghost use Rattle.s3r_world.specs.Image.{Image};
 
+/// A side of a world: the calls whose failures are counted together.
+#[derive(Clone, Copy, Debug, PartialEq, Eq)]
+pub enum Side {
+    /// `size`, `read`, `write_at` and `sync` of the volume with this number.
+    Volume(u32),
+    /// `take`.
+    Input,
+    /// `emit`.
+    Output,
+    /// `next_connection`.
+    Door,
+}
+
 /// A call on the volume with this number failed, and that volume's count of failures rose.
 #[derive(Clone, Copy, Debug, PartialEq, Eq)]
 pub struct VolumeFault(pub u32);
@@ -24,6 +37,10 @@ pub struct DoorFault;
 /// Volumes are numbered from 0. Each side counts its failures in a number that never falls, and a call answers its
 /// fault only where its own count rose in that call. A failed call may have done any part of what it was to do, save
 /// that a failed `take` has taken nothing. No call answers want of memory: it is a fault of that side.
+///
+/// A world says at which number its counts stay, if at any (`most` of its `faults`), and that never changes. Where it
+/// says none, a count rises by at least one in each call that answers its fault, however often that side failed before.
+/// Only a world that gives a number is excused: a count that stands there needn't rise any more.
 pub trait World {
     ghost use Rattle.s3r_world.specs.Outside.{Shape, KeepsShape, Counts, Outside, Looks, Writes, Syncs, Emits, Takes, Connects, VolumeCause, InputCause, OutputCause, DoorCause};
 
@@ -33,7 +50,7 @@ pub trait World {
     /// What never changes.
     ghost shape: { Self → Shape };
 
-    /// How often each side has failed.
+    /// How often each side has failed, and at which number those counts stay, if at any.
     ghost faults: { Self → Counts };
 
     /// What it holds.

@@ -7,4 +7,5 @@ use Rattle.s3r_api.proofs.listings.listing_text.Goals as goal
 pub returns : goal.returns
 returns c =
     let value = c.in_ok-listing_value.ensures in
-    IfOk-weaker c.to_string.result _ _ (λ text is. is (ap has_float value ∙ no_float c.args.listing.now) ∙ ap compact_text value) c.to_string.ensures.text
+    let whole = ap has_float value ∙ no_float c.args.listing.now c.args.statuses.now in
+    IfOk-weaker c.to_string.result _ _ (λ text is. is whole ∙ ap compact_text value) c.to_string.ensures.text

@@ -1,4 +1,5 @@
 use Rattle.std.proofs.Common.{◌≡◌, ℕ, length, Result, Ok, Err, sym, ◌∙◌, subst, arith}
+use Rattle.s3r_world.specs.declared.world.Side.TheVariants as side
 use Rattle.s3r_world.specs.Outside.{Looks, Rises}
 use Rattle.s3r_store.specs.declared.fault.StoreFault.{StoreFault}
 use Rattle.s3r_store.specs.declared.fault.StoreFault.TheVariants as store
@@ -199,5 +200,5 @@ returns-in-Err-Volume-clause-cause g c =
     let cause = subst (λ (e : StoreFault). IsCause c.index_mut.result.now.v (failed_with e) (g.W.World.faults c.args.world.now)
     (g.W.World.faults c.commit.new.world)) c.in-Err-Volume.field-0-is c.in-Err-Volume.ensures.cause in (
       omega (arith, cause.0, c.requires.numbered.v c.args.region c.index_mut.result.now at),
-      subst (λ (m : ℕ). Rises 1 ((g.W.World.faults c.args.world.now).volume m) ((g.W.World.faults c.commit.new.world).volume m)) (sym cause.0) cause.1,
+      subst (λ (m : ℕ). Rises 1 (side.Volume m) (g.W.World.faults c.args.world.now) (g.W.World.faults c.commit.new.world)) (sym cause.0) cause.1,
     )

@@ -1,11 +1,5 @@
 use Rattle.s3r_desk.proofs.planning.plan_of.Goals as goal
 
-pub returns-in-ListVersions-clause-fits : goal.returns-in-ListVersions-clause-fits
-returns-in-ListVersions-clause-fits c = c.list_versions.ensures.fits _
-
-pub returns-in-GetObject-clause-fits : goal.returns-in-GetObject-clause-fits
-returns-in-GetObject-clause-fits c = c.get_object.ensures.fits _
-
 pub returns-in-GetTags-clause-fits : goal.returns-in-GetTags-clause-fits
 returns-in-GetTags-clause-fits c = c.get_tags.ensures.fits _
 

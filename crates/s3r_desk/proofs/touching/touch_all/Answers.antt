@@ -23,7 +23,7 @@ loop-r-init g c = record {
   looks = λ told. looks_none (g.W.World.outside c.args.world.now);
   told = λ told before keeps. touches_none before c.args.stores.now.items (g.W.World.outside c.args.world.now)
       (looks_none (g.W.World.outside c.args.world.now)) keeps;
-  counts = record { volume = λ u. omega arith; input = omega arith; output = omega arith; door = omega arith };
+  counts = record { most = refl; volume = λ u. omega arith; input = omega arith; output = omega arith; door = omega arith };
   goes = g.met.W.World.goes_none c.args.world.now;
   shape = record { volumes = refl; room = λ v. refl };
 }
@@ -37,6 +37,11 @@ pub touch_one-requires-clause-region : goal.touch_one-requires-clause-region
 touch_one-requires-clause-region g c =
     let at = get_at c.loop-r.stores.items c.loop-r.r c.index_mut.result.now (omega arith) c.index_mut.ensures.value in
     omega (arith, c.loop-r.invariant.numbered.v c.loop-r.r c.index_mut.result.now at, c.loop-r.invariant.count)
+
+pub touch_one-requires-clause-some : goal.touch_one-requires-clause-some
+touch_one-requires-clause-some g c =
+    let at = get_at c.loop-r.stores.items c.loop-r.r c.index_mut.result.now (omega arith) c.index_mut.ensures.value in
+    omega (arith, c.loop-r.invariant.numbered.regions c.loop-r.r c.index_mut.result.now at, c.loop-r.invariant.count)
 
 pub touch_one-requires-clause-tied : goal.touch_one-requires-clause-tied
 touch_one-requires-clause-tied g c = λ told.

@@ -3,7 +3,7 @@ use Rattle.std.proofs.lemmas.Result.{on_ok_weaker}
 use Rattle.s3r_region.specs.Contents.{is_named}
 use Rattle.s3r_region.specs.Changes.{changed}
 use Rattle.s3r_region.proofs.Places.{first-position, set_at, set_first-none}
-use Rattle.s3r_region.proofs.Earlier.{free_at}
+use Rattle.s3r_region.proofs.Given.{free_at}
 use Rattle.s3r_region.proofs.bucket.change_bucket.Goals as goal
 
 pub change-requires : goal.change-requires

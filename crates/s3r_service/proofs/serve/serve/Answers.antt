@@ -33,7 +33,7 @@ loop-init g c = record {
   tied = λ told r s get. ties_none s (g.W.World.outside c.args.world.now) (c.in_ok-desk.ensures.fresh r s get);
   count = c.in_ok-desk.ensures.count;
   numbered = c.in_ok-desk.ensures.numbered;
-  counts = record { volume = λ u. omega arith; input = omega arith; output = omega arith; door = omega arith };
+  counts = record { most = refl; volume = λ u. omega arith; input = omega arith; output = omega arith; door = omega arith };
   goes = g.met.W.World.goes_none c.args.world.now;
   shape = record { volumes = refl; room = λ v. refl };
 }
