@@ -18,23 +18,29 @@ abbrev pub replication_members : Option (List ℕ) → Members → Members
 replication_members None others = others
 replication_members (Some word) others = member (codes "ReplicationStatus") (string word) others
 
--- a delete marker
-abbrev pub marker_data : Shown → Data
-marker_data shown =
-    object (member (codes "IsLatest") (boolean shown.0.latest)
-    (member (codes "Key") (string shown.0.key)
-    (replication_members (status_word shown.1)
-    (member (codes "VersionId") (string (id_text shown.0.id)) no_members))))
+-- a delete marker whose status has this word, where it has one, and whose id has this text
+abbrev pub marker_with : Listed → Option (List ℕ) → List ℕ → Data
+marker_with entry word id =
+    object (member (codes "IsLatest") (boolean entry.latest)
+    (member (codes "Key") (string entry.key)
+    (replication_members word
+    (member (codes "VersionId") (string id) no_members))))
 
--- a version with a body
+-- a version with a body, told the same way
+abbrev pub version_with : Listed → Option (List ℕ) → List ℕ → Data
+version_with entry word id =
+    object (member (codes "IsLatest") (boolean entry.latest)
+    (member (codes "Key") (string entry.key)
+    (replication_members word
+    (member (codes "Size") (number (unsigned entry.length))
+    (member (codes "StorageClass") (string entry.class)
+    (member (codes "VersionId") (string id) no_members))))))
+
+abbrev pub marker_data : Shown → Data
+marker_data shown = marker_with shown.0 (status_word shown.1) (id_text shown.0.id)
+
 abbrev pub version_data : Shown → Data
-version_data shown =
-    object (member (codes "IsLatest") (boolean shown.0.latest)
-    (member (codes "Key") (string shown.0.key)
-    (replication_members (status_word shown.1)
-    (member (codes "Size") (number (unsigned shown.0.length))
-    (member (codes "StorageClass") (string shown.0.class)
-    (member (codes "VersionId") (string (id_text shown.0.id)) no_members))))))
+version_data shown = version_with shown.0 (status_word shown.1) (id_text shown.0.id)
 
 abbrev pub markers_data : List Shown → Data
 markers_data all = array (items_of (map marker_data (filter (λ shown. shown.0.marker) all)))

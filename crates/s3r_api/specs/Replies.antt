@@ -96,8 +96,11 @@ code_text code members = compact_text (code_data code members)
 abbrev pub coded : ℕ → List ℕ → Reply
 coded status code = json_reply status (code_text code no_members)
 
+abbrev pub region_name : ℕ → List ℕ
+region_name region = codes "r" ++ decimal region
+
 abbrev pub region_members : ℕ → Members
-region_members region = member (codes "Region") (string (codes "r" ++ decimal region)) no_members
+region_members region = member (codes "Region") (string (region_name region)) no_members
 
 -- what is wrong at a rule, 0 where it is at none
 abbrev pub rule_members : List ℕ → ℕ → Members
@@ -144,11 +147,24 @@ versioning_word enabled = if enabled then codes "Enabled" else codes "Suspended"
 abbrev pub status_reply : List ℕ → Reply
 status_reply word = json_reply 200 (compact_text (status_data word))
 
+-- what two regions tell of the tasks from one to the other
+abbrev pub pair_data : (from to : List ℕ) (sent answered settled received : ℕ) → Data
+pair_data from to sent answered settled received =
+    object (member (codes "Answered") (number (unsigned answered))
+    (member (codes "Code") (string (codes "Disagree"))
+    (member (codes "From") (string from)
+    (member (codes "Received") (number (unsigned received))
+    (member (codes "Sent") (number (unsigned sent))
+    (member (codes "Settled") (number (unsigned settled))
+    (member (codes "To") (string to) no_members)))))))
+
 abbrev pub fault_reply : DeskFault → Reply
 fault_reply (fault.Volume region) = json_reply 503 (code_text (codes "VolumeFault") (region_members region))
 fault_reply (fault.Full region) = json_reply 507 (code_text (codes "VolumeFull") (region_members region))
 fault_reply (fault.Damaged region offset) = json_reply 500 (code_text (codes "Damaged")
     (member (codes "Offset") (number (unsigned offset)) (region_members region)))
+fault_reply (fault.Disagree from to sent answered settled received) =
+    json_reply 500 (compact_text (pair_data (region_name from) (region_name to) sent answered settled received))
 fault_reply fault.OutOfMemory = coded 500 (codes "OutOfMemory")
 
 abbrev pub problem_reply : Problem → Reply

@@ -1,11 +1,11 @@
 //! The text of a page of a bucket's versions.
 
-ghost use Rattle.std.specs.Prelude.{◌≡◌, not, IfOk, option_copied, string_bytes, map, filter};
+ghost use Rattle.std.specs.Prelude.{◌≡◌, not, Some, None, IfOk, option_copied, string_bytes, map, filter};
 ghost use Rattle.std.specs.List.{zip};
 ghost use Rattle.serde_json.specs.Data.{array};
 ghost use Rattle.serde_json.specs.View.{view, items_of};
 ghost use Rattle.serde_json.specs.Written.{compact_text};
-ghost use Rattle.s3r_api.specs.Listings.{marker_data, version_data, cut_after, page_data, listing_data};
+ghost use Rattle.s3r_api.specs.Listings.{marker_with, marker_data, version_with, version_data, cut_after, page_data, listing_data};
 
 use crate::ids::id_text;
 use crate::replication::status_word;
@@ -14,23 +14,72 @@ use s3r_names::Status;
 use serde_json::{Value, json};
 use std::alloc::{AllocError, Global};
 
+fn marker_without_status(alloc: Global, entry: &Listed, id: &str) -> Result<Value, AllocError>
+    ensures { IfOk result (λ value. view value ≡ marker_with entry.now None id.now) }
+{
+    json!(in alloc; {
+        "IsLatest": entry.latest,
+        "Key": entry.key.as_str(),
+        "VersionId": id
+    })
+}
+
+/// A marker whose status has this word.
+fn marker_with_status(
+    alloc: Global,
+    entry: &Listed,
+    word: &str,
+    id: &str,
+) -> Result<Value, AllocError>
+    ensures { IfOk result (λ value. view value ≡ marker_with entry.now (Some word.now) id.now) }
+{
+    json!(in alloc; {
+        "IsLatest": entry.latest,
+        "Key": entry.key.as_str(),
+        "ReplicationStatus": word,
+        "VersionId": id
+    })
+}
+
 fn marker_value(alloc: Global, entry: &Listed, status: Status) -> Result<Value, AllocError>
     ensures { IfOk result (λ value. view value ≡ marker_data (entry.now, status)) }
 {
     let id = id_text(alloc, entry.id)?;
     match status_word(status) {
-        Some(word) => json!(in alloc; {
-            "IsLatest": entry.latest,
-            "Key": entry.key.as_str(),
-            "ReplicationStatus": word,
-            "VersionId": id.as_str()
-        }),
-        None => json!(in alloc; {
-            "IsLatest": entry.latest,
-            "Key": entry.key.as_str(),
-            "VersionId": id.as_str()
-        }),
+        Some(word) => marker_with_status(alloc, entry, word, id.as_str()),
+        None => marker_without_status(alloc, entry, id.as_str()),
     }
+}
+
+fn version_without_status(alloc: Global, entry: &Listed, id: &str) -> Result<Value, AllocError>
+    ensures { IfOk result (λ value. view value ≡ version_with entry.now None id.now) }
+{
+    json!(in alloc; {
+        "IsLatest": entry.latest,
+        "Key": entry.key.as_str(),
+        "Size": entry.length,
+        "StorageClass": entry.class.as_str(),
+        "VersionId": id
+    })
+}
+
+/// A version whose status has this word.
+fn version_with_status(
+    alloc: Global,
+    entry: &Listed,
+    word: &str,
+    id: &str,
+) -> Result<Value, AllocError>
+    ensures { IfOk result (λ value. view value ≡ version_with entry.now (Some word.now) id.now) }
+{
+    json!(in alloc; {
+        "IsLatest": entry.latest,
+        "Key": entry.key.as_str(),
+        "ReplicationStatus": word,
+        "Size": entry.length,
+        "StorageClass": entry.class.as_str(),
+        "VersionId": id
+    })
 }
 
 fn version_value(alloc: Global, entry: &Listed, status: Status) -> Result<Value, AllocError>
@@ -38,21 +87,8 @@ fn version_value(alloc: Global, entry: &Listed, status: Status) -> Result<Value,
 {
     let id = id_text(alloc, entry.id)?;
     match status_word(status) {
-        Some(word) => json!(in alloc; {
-            "IsLatest": entry.latest,
-            "Key": entry.key.as_str(),
-            "ReplicationStatus": word,
-            "Size": entry.length,
-            "StorageClass": entry.class.as_str(),
-            "VersionId": id.as_str()
-        }),
-        None => json!(in alloc; {
-            "IsLatest": entry.latest,
-            "Key": entry.key.as_str(),
-            "Size": entry.length,
-            "StorageClass": entry.class.as_str(),
-            "VersionId": id.as_str()
-        }),
+        Some(word) => version_with_status(alloc, entry, word, id.as_str()),
+        None => version_without_status(alloc, entry, id.as_str()),
     }
 }
 

@@ -7,7 +7,7 @@ ghost use Rattle.serde_json.specs.Written.{compact_text};
 ghost use Rattle.s3r_json.specs.Tags.{tags_data};
 ghost use Rattle.s3r_rules_json.specs.Printing.{config_data};
 ghost use Rattle.s3r_api.specs.Listings.{listing_data};
-ghost use Rattle.s3r_api.specs.Replies.{json_reply, status_reply, hold_word, versioning_word, code_data, code_text, coded, region_members, rule_members, kind_reply, refusal_reply, fault_reply, problem_reply};
+ghost use Rattle.s3r_api.specs.Replies.{json_reply, status_reply, hold_word, versioning_word, code_data, code_text, coded, pair_data, region_name, region_members, rule_members, kind_reply, refusal_reply, fault_reply, problem_reply};
 
 use crate::listings::listing_text;
 use crate::problem::Problem;
@@ -46,6 +46,29 @@ fn place_value(alloc: Global, code: &str, region: &str, offset: u64) -> Result<V
     json!(in alloc; {"Code": code, "Offset": offset, "Region": region})
 }
 
+/// What two regions tell of the tasks from one to the other.
+fn pair_value(
+    alloc: Global,
+    from: &str,
+    to: &str,
+    sent: u64,
+    answered: u64,
+    settled: u64,
+    received: u64,
+) -> Result<Value, AllocError>
+    ensures { IfOk result (λ value. view value ≡ pair_data from.now to.now sent answered settled received) }
+{
+    json!(in alloc; {
+        "Answered": answered,
+        "Code": "Disagree",
+        "From": from,
+        "Received": received,
+        "Sent": sent,
+        "Settled": settled,
+        "To": to
+    })
+}
+
 /// What is wrong at a rule, 0 where it is at none.
 fn rule_value(alloc: Global, code: &str, kind: &str, rule: u32) -> Result<Value, AllocError>
     ensures { IfOk result (λ value. view value ≡ code_data code.now (rule_members kind.now rule)) }
@@ -71,6 +94,31 @@ fn place_text(alloc: Global, code: &str, region: u32, offset: u64) -> Result<Str
 {
     let region = format!(in alloc; "r{region}")?;
     place_value(alloc, code, region.as_str(), offset)?.to_string(alloc)
+}
+
+fn pair_text(
+    alloc: Global,
+    from: u32,
+    to: u32,
+    sent: u64,
+    answered: u64,
+    settled: u64,
+    received: u64,
+) -> Result<String, AllocError>
+    ensures { IfOk result (λ text. string_bytes text ≡ compact_text (pair_data (region_name from) (region_name to) sent answered settled received)) }
+{
+    let from = format!(in alloc; "r{from}")?;
+    let to = format!(in alloc; "r{to}")?;
+    let value = pair_value(
+        alloc,
+        from.as_str(),
+        to.as_str(),
+        sent,
+        answered,
+        settled,
+        received,
+    )?;
+    value.to_string(alloc)
 }
 
 fn rule_text(alloc: Global, code: &str, kind: &str, rule: u32) -> Result<String, AllocError>
@@ -210,6 +258,17 @@ pub fn fault_reply(alloc: Global, fault: DeskFault) -> Result<JsonReply, AllocEr
         DeskFault::Damaged { v, offset } => Ok(JsonReply {
             status: StatusCode::INTERNAL_SERVER_ERROR,
             body: place_text(alloc, "Damaged", v, offset)?,
+        }),
+        DeskFault::Disagree {
+            from,
+            to,
+            sent,
+            answered,
+            settled,
+            received,
+        } => Ok(JsonReply {
+            status: StatusCode::INTERNAL_SERVER_ERROR,
+            body: pair_text(alloc, from, to, sent, answered, settled, received)?,
         }),
         DeskFault::OutOfMemory => coded(alloc, StatusCode::INTERNAL_SERVER_ERROR, "OutOfMemory"),
     }

@@ -15,4 +15,5 @@ cause_wider A B m n (faults.Volume v) a b d le falls cause = (
 )
 cause_wider A B m n (faults.Full v) a b d le falls cause = omega (arith, le, cause)
 cause_wider A B m n (faults.Damaged v offset) a b d le falls cause = omega (arith, le, cause)
+cause_wider A B m n (faults.Disagree from to sent last settled received) a b d le falls cause = tt
 cause_wider A B m n faults.OutOfMemory a b d le falls cause = tt

@@ -103,6 +103,7 @@ module _ (before : Events) (s : Step) (room : ℕ → ℕ) (a b : List Store) (o
       happens = did.4;
     }
     came_failed (faults.Damaged v offset) did = absurd did
+    came_failed (faults.Disagree from to sent last settled received) did = absurd did
     came_failed faults.OutOfMemory did = record {
       rest = began r c ∷ [];
       comes = inr (stops did.0 (began r c ∷ []), inr refl);

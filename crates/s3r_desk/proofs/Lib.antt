@@ -7,6 +7,8 @@ pub mod Touched
 pub mod Causes
 pub mod CommitsMade
 pub mod Locations
+pub mod Disagreeing
+mod AnswersMade
 pub mod Coming
 mod Responding
 pub mod Ids

@@ -14,8 +14,9 @@ use Rattle.s3r_desk.specs.declared.planning.Plan.{Plan}
 use Rattle.s3r_desk.specs.declared.planning.Plan.TheVariants.{Shows, Fetches, Commits}
 use Rattle.s3r_desk.specs.Events.{found, began, answered, Events, known, history_at}
 use Rattle.s3r_desk.specs.Steps.{Commit, Histories, after_commit, made, commits_unless, reply_at, plan, views, statuses, made_of}
+use Rattle.s3r_desk.specs.Comparing.{disagreement}
 use Rattle.s3r_desk.specs.Careful.{IsLicensed, MayBegin, AreCareful}
-use Rattle.s3r_desk.specs.Responds.{AreTouched, AreKnown, IsBelow, StopsAt, IsInDoubt, Comes, IsTurn}
+use Rattle.s3r_desk.specs.Responds.{AreTouched, AreKnown, IsBelow, StopsAt, IsInDoubt, Comes, StepsUnless, IsTurn}
 use Rattle.s3r_desk.specs.Laws.{TurnsAreCareful}
 use Rattle.s3r_desk.proofs.Careful.{careful_then}
 use Rattle.s3r_desk.proofs.Leaving.{MayBeAsked, Leaves, plan-leaves}
@@ -112,20 +113,27 @@ comes_careful n room now commits reply rest (Err (faults.Volume v)) all comes =
 comes_careful n room now commits reply rest (Err (faults.Full v)) all comes =
     stopped_careful n room now (history_at now) commits rest comes.stops all (inl comes.none)
 comes_careful n room now commits reply rest (Err (faults.Damaged v offset)) all comes = absurd comes
+comes_careful n room now commits reply rest (Err (faults.Disagree from to sent last settled received)) all comes = absurd comes
 comes_careful n room now commits reply rest (Err faults.OutOfMemory) all comes = ⊎_elim
     (λ none. subst (λ (l : Events). AreCareful n now l) (sym none) tt)
     (λ w. stopped_careful n room now (history_at now) commits rest w.0 all w.1)
     comes
 
+steps_careful : (n : ℕ) (room : ℕ → ℕ) (now : Events) (request : Request) (rest : Events) (result : Result Answer DeskFault)
+    → AreKnown (IsBelow n) now → (o : Option DeskFault) → StepsUnless o n room (history_at now) request rest result → AreCareful n now rest
+steps_careful n room now request rest result all None comes =
+    let planned : Plan = plan n (views (history_at now)) (statuses (history_at now)) request in
+    comes_careful n room now _ _ rest result
+    (step_licensed n now all planned (plan-leaves n (views (history_at now)) (statuses (history_at now)) request)) comes
+steps_careful n room now request rest result all (Some fault) did = subst (λ (l : Events). AreCareful n now l) (sym did.1) tt
+
 pub turn_careful : (P : ℕ → History → Type 0) (n : ℕ) (room : ℕ → ℕ) (before : Events) (request : Request) (result : Result Answer DeskFault)
     (events : Events) → IsTurn P n room before request result events → AreCareful n before events
 turn_careful P n room before request result events turn =
     let now : Events = turn.touched ++ before in
-    let planned : Plan = plan n (views (history_at now)) (statuses (history_at now)) request in
     subst (λ (l : Events). AreCareful n before l) (sym turn.parts)
     (careful_then n before turn.touched turn.rest (touched_careful P (IsBelow n) n before turn.touched turn.touches) (⊎_elim
-    (λ w. comes_careful n room now _ _ turn.rest result
-    (step_licensed n now w.0 planned (plan-leaves n (views (history_at now)) (statuses (history_at now)) request)) w.1)
+    (λ w. steps_careful n room now request turn.rest result w.0 (disagreement n (history_at now)) w.1)
     (λ none. subst (λ (l : Events). AreCareful n now l) (sym none.0) tt)
     turn.steps))
 

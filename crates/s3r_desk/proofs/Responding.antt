@@ -1,5 +1,5 @@
 -- A request's turn: all regions are touched, and then its step is made.
-use Rattle.std.proofs.Common.{◌≡◌, ℕ, List, [], ◌++◌, length, Result, Ok, Err, refl, sym, subst, inl, inr, append_assoc}
+use Rattle.std.proofs.Common.{◌≡◌, ℕ, List, [], ◌++◌, length, Option, Some, None, Result, Ok, Err, refl, sym, subst, inl, inr, append_assoc}
 use Rattle.s3r_world.specs.Image.{Image}
 use Rattle.s3r_world.specs.Outside.{Outside}
 use Rattle.s3r_store.specs.declared.store.Store.{Store}
@@ -10,10 +10,12 @@ use Rattle.s3r_desk.specs.declared.request.Answer.{Answer}
 use Rattle.s3r_desk.specs.Events.{Events, history_at}
 use Rattle.s3r_desk.specs.Steps.{Commit, Histories, step}
 use Rattle.s3r_desk.specs.Keeping.{Keeps, AreRead}
+use Rattle.s3r_desk.specs.Comparing.{disagreement}
 use Rattle.s3r_desk.specs.Progress.{Happens}
-use Rattle.s3r_desk.specs.Responds.{IsBelow, AreKnown, Comes, FailsToTouch, IsDamage, Touches, Answers, Responds}
+use Rattle.s3r_desk.specs.Responds.{IsBelow, AreKnown, Comes, StepsUnless, FailsToTouch, IsDamage, Touches, Answers, Responds}
 use Rattle.s3r_desk.proofs.Stepping.{happens_then}
 use Rattle.s3r_desk.proofs.Locations.{all_known}
+use Rattle.s3r_desk.proofs.Disagreeing.{IsDisagreement, some_disagrees}
 
 -- a step finds no damage
 undamaged : (n : ℕ) (w : Image) (room : ℕ → ℕ) (at : Histories) (commits : List Commit) (reply : Answer) (events : Events) (result : Result Answer DeskFault)
@@ -22,7 +24,23 @@ undamaged n w room at commits reply events (Ok a) comes = tt
 undamaged n w room at commits reply events (Err (faults.Volume v)) comes = tt
 undamaged n w room at commits reply events (Err (faults.Full v)) comes = tt
 undamaged n w room at commits reply events (Err (faults.Damaged v offset)) comes = absurd comes
+undamaged n w room at commits reply events (Err (faults.Disagree from to sent last settled received)) comes = absurd comes
 undamaged n w room at commits reply events (Err faults.OutOfMemory) comes = tt
+
+told_undamaged : (n : ℕ) (w : Image) (e : DeskFault) → IsDisagreement e → IsDamage {A = Answer} n w (Err e)
+told_undamaged n w (faults.Volume v) is = absurd is
+told_undamaged n w (faults.Full v) is = absurd is
+told_undamaged n w (faults.Damaged v offset) is = absurd is
+told_undamaged n w (faults.Disagree from to sent last settled received) is = tt
+told_undamaged n w faults.OutOfMemory is = absurd is
+
+-- no disagreement is damage, and a step finds none
+steps_undamaged : (n m : ℕ) (w : Image) (room : ℕ → ℕ) (at : Histories) (request : Request) (events : Events) (result : Result Answer DeskFault)
+    (o : Option DeskFault) → disagreement m at ≡ o → StepsUnless o m room at request events result → IsDamage n w result
+steps_undamaged n m w room at request events result None is comes =
+    undamaged n w room at (step m at request).commits (step m at request).reply events result comes
+steps_undamaged n m w room at request events result (Some fault) is did =
+    subst (λ (r : Result Answer DeskFault). IsDamage n w r) (sym did.0) (told_undamaged n w fault (some_disagrees m at fault is))
 
 -- the fault is told of another type
 fails_as : (A B : Type 0) (among : ℕ → Type 0) (events : Events) (e : DeskFault) → FailsToTouch {A = A} among events (Err e)
@@ -30,12 +48,14 @@ fails_as : (A B : Type 0) (among : ℕ → Type 0) (events : Events) (e : DeskFa
 fails_as A B among events (faults.Volume v) f = f
 fails_as A B among events (faults.Full v) f = f
 fails_as A B among events (faults.Damaged v offset) f = f
+fails_as A B among events (faults.Disagree from to sent last settled received) f = f
 fails_as A B among events faults.OutOfMemory f = f
 
 pub damage_as : (n : ℕ) (A B : Type 0) (w : Image) (e : DeskFault) → IsDamage {A = A} n w (Err e) → IsDamage {A = B} n w (Err e)
 damage_as n A B w (faults.Volume v) d = tt
 damage_as n A B w (faults.Full v) d = tt
 damage_as n A B w (faults.Damaged v offset) d = d
+damage_as n A B w (faults.Disagree from to sent last settled received) d = tt
 damage_as n A B w faults.OutOfMemory d = tt
 
 module _ (before : Events) (request : Request) (room : ℕ → ℕ) (a b : List Store) (old mid : Outside) where
@@ -69,14 +89,13 @@ module _ (before : Events) (request : Request) (room : ℕ → ℕ) (a b : List 
         touches = touches.touches;
         steps = inl (
           known,
-          subst (λ (n : ℕ). let s = step n at request in
-              Comes room at s.commits s.reply did.rest result) same (subst
-              (λ (x : ℕ → ℕ). Comes x at (step (length b) at request).commits (step (length b) at request).reply did.rest result) rooms did.comes),
+          subst (λ (n : ℕ). StepsUnless (disagreement n at) n room at request did.rest result) same
+              (subst (λ (x : ℕ → ℕ). StepsUnless (disagreement (length b) at) (length b) x at request did.rest result) rooms did.steps),
         );
       };
       keeps = subst (λ (l : Events). Keeps l d new) (sym (append_assoc did.rest touches.touched before)) did.keeps;
       happens = happens_then (length a) touches.touched did.rest old mid new touches.happens (subst (λ (n : ℕ). Happens n did.rest mid new) same did.happens);
-      damage = undamaged (length a) old.as_read room' at (step (length b) at request).commits (step (length b) at request).reply did.rest result did.comes;
+      damage = steps_undamaged (length a) (length b) old.as_read room' at request did.rest result (disagreement (length b) at) refl did.steps;
     }
       where
         at : Histories

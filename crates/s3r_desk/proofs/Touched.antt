@@ -101,6 +101,7 @@ fails_next : (among : ℕ → Type 0) (events : Events) (r : ℕ) (e : DeskFault
 fails_next among events r (faults.Volume v) at next = subst (λ (m : ℕ). IsNext among events m) (sym at) next
 fails_next among events r (faults.Full v) at next = at
 fails_next among events r (faults.Damaged v offset) at next = subst (λ (m : ℕ). IsNext among events m) (sym at) next
+fails_next among events r (faults.Disagree from to sent last settled received) at next = absurd at
 fails_next among events r faults.OutOfMemory at next = (r, next)
 
 module _ (before : Events) (a b : List Store) (r : ℕ) (s s' : Store) (old mid new : Outside) (lt : r < length b) (same : length b ≡ length a)

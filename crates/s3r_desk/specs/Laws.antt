@@ -1,5 +1,5 @@
 -- What is true of every step.
-use Rattle.std.specs.Prelude.{◌≡◌, ℕ, ◌<◌, Bool, true, false, ◌++◌, Result}
+use Rattle.std.specs.Prelude.{◌≡◌, ℕ, ◌<◌, Bool, true, false, ◌++◌, None, Result}
 use Rattle.s3r_world.specs.Image.{Image}
 use Rattle.s3r_history.specs.Words.{History}
 use Rattle.s3r_history.specs.declared.refusal.Refusal.{Refusal}
@@ -12,6 +12,7 @@ use Rattle.s3r_desk.specs.declared.request.Answer.TheVariants as answer
 use Rattle.s3r_desk.specs.Events.{Events, Leads}
 use Rattle.s3r_desk.specs.Steps.{Histories, step}
 use Rattle.s3r_desk.specs.Careful.{AreAgreed, AreCareful, IsWhatIsKnown, LeadAll}
+use Rattle.s3r_desk.specs.Comparing.{disagreement}
 use Rattle.s3r_desk.specs.Responds.{IsTurn}
 
 -- a client is told of it
@@ -77,3 +78,7 @@ WhatIsKnownIsThere = (before events : Events) (r : ℕ) (h k : History) → IsWh
 abbrev pub TurnsAreCareful : Type 0
 TurnsAreCareful = (n : ℕ) (room : ℕ → ℕ) (seen : Image) (before : Events) (request : Request) (result : Result Answer DeskFault) (events : Events)
     → IsTurn (λ r h. StandsFor n r h (seen.volume r)) n room before request result events → AreCareful n before events
+
+-- no two regions that agree are told to disagree
+abbrev pub AgreeingIsNotTold : Type 0
+AgreeingIsNotTold = (n : ℕ) (at : Histories) → AreAgreed n at → disagreement n at ≡ None

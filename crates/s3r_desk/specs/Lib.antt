@@ -2,6 +2,7 @@ pub mod Events
 pub mod Progress
 pub mod Steps
 pub mod Careful
+pub mod Comparing
 pub mod Keeping
 pub mod Lookups
 pub mod Responds

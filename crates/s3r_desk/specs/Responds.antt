@@ -1,5 +1,5 @@
 -- What the desk does at a request.
-use Rattle.std.specs.Prelude.{◌≡◌, ◌⊎◌, ℕ, ◌+◌, ◌<◌, ◌≤◌, List, [], ◌∷◌, ◌++◌, length, Some, None, Result, Ok, Err, OnErr, IsSome}
+use Rattle.std.specs.Prelude.{◌≡◌, ◌⊎◌, ℕ, ◌+◌, ◌<◌, ◌≤◌, List, [], ◌∷◌, ◌++◌, length, Option, Some, None, Result, Ok, Err, OnErr, IsSome}
 use Rattle.s3r_world.specs.Image.{Image}
 use Rattle.s3r_world.specs.declared.world.Side.TheVariants as side
 use Rattle.s3r_world.specs.Outside.{Outside, Looks, Counts, Rises}
@@ -19,6 +19,7 @@ use Rattle.s3r_desk.specs.Events.{found, began, answered, Events, known, history
 use Rattle.s3r_desk.specs.declared.planning.Plan.TheVariants.{Commits}
 use Rattle.s3r_desk.specs.declared.planning.Reply.{Reply}
 use Rattle.s3r_desk.specs.Steps.{Histories, Commit, Step, step, made_of, after_commits, made, FitRooms}
+use Rattle.s3r_desk.specs.Comparing.{disagreement}
 use Rattle.s3r_desk.specs.Keeping.{Keeps}
 use Rattle.s3r_desk.specs.Progress.{Happens}
 
@@ -83,10 +84,17 @@ Comes room at commits reply events (Ok a) = (a ≡ reply) × (events ≡ made at
 Comes room at commits reply events (Err (faults.Volume v)) = IsBegun room v at commits events
 Comes room at commits reply events (Err (faults.Full v)) = PassesRoom room v at commits events
 Comes room at commits reply events (Err (faults.Damaged v offset)) = ⊥
+Comes room at commits reply events (Err (faults.Disagree from to sent last settled received)) = ⊥
 Comes room at commits reply events (Err faults.OutOfMemory) = IsStarved room at commits events
 
+-- a pair of regions disagrees so, and nothing is done; or none does, and the request's step is made
+abbrev pub StepsUnless : Option DeskFault → ℕ → (ℕ → ℕ) → Histories → Request → Events → Result Answer DeskFault → Type 0
+StepsUnless None n room at request events result = let s = step n at request in Comes room at s.commits s.reply events result
+StepsUnless (Some fault) n room at request events result = (result ≡ Err fault) × (events ≡ [])
+
+-- all pairs are compared, and then the step is made
 abbrev pub Steps : ℕ → (ℕ → ℕ) → Events → Request → Events → Result Answer DeskFault → Type 0
-Steps n room before request events result = let at = history_at before in let s = step n at request in Comes room at s.commits s.reply events result
+Steps n room before request events result = let at = history_at before in StepsUnless (disagreement n at) n room at request events result
 
 -- a touch of the next region failed: by its volume's fault, its damage or want of memory
 abbrev pub FailsToTouch : {A : Type 0} → (ℕ → Type 0) → Events → Result A DeskFault → Type 0
@@ -94,9 +102,10 @@ FailsToTouch among events (Ok a) = ⊥
 FailsToTouch among events (Err (faults.Volume v)) = IsNext among events v
 FailsToTouch among events (Err (faults.Full v)) = ⊥
 FailsToTouch among events (Err (faults.Damaged v offset)) = IsNext among events v
+FailsToTouch among events (Err (faults.Disagree from to sent last settled received)) = ⊥
 FailsToTouch among events (Err faults.OutOfMemory) = (v : ℕ) × IsNext among events v
 
--- All regions are touched in order, and then the request's step is made; or a touch fails.
+-- All regions are touched in order, and then all pairs are compared and the request's step is made; or a touch fails.
 pub record IsTurn (P : ℕ → History → Type 0) (n : ℕ) (room : ℕ → ℕ) (before : Events) (request : Request) (result : Result Answer DeskFault)
     (events : Events) : Type 0 where
   pub touched : Events
@@ -116,6 +125,7 @@ IsDamage n c (Ok a) = Unit {0}
 IsDamage n c (Err (faults.Volume v)) = Unit {0}
 IsDamage n c (Err (faults.Full v)) = Unit {0}
 IsDamage n c (Err (faults.Damaged v offset)) = DamagedAt n v offset (c.volume v) × ((k : History) → StandsFor n v k (c.volume v) → ⊥)
+IsDamage n c (Err (faults.Disagree from to sent last settled received)) = Unit {0}
 IsDamage n c (Err faults.OutOfMemory) = Unit {0}
 
 -- a touch of this region failed
@@ -124,6 +134,7 @@ FailsAt r (Ok a) = ⊥
 FailsAt r (Err (faults.Volume v)) = v ≡ r
 FailsAt r (Err (faults.Full v)) = ⊥
 FailsAt r (Err (faults.Damaged v offset)) = v ≡ r
+FailsAt r (Err (faults.Disagree from to sent last settled received)) = ⊥
 FailsAt r (Err faults.OutOfMemory) = Unit {0}
 
 -- The regions were touched in order, up to the first fault.
@@ -146,6 +157,7 @@ CommitsOne before n r h c room (Err (faults.Volume v)) b old new =
 CommitsOne before n r h c room (Err (faults.Full v)) b old new = (v ≡ r) × (refusal n r h c ≡ None) × (room < length_with r h c) × Keeps before b new
     × Happens n [] old new
 CommitsOne before n r h c room (Err (faults.Damaged v offset)) b old new = ⊥
+CommitsOne before n r h c room (Err (faults.Disagree from to sent last settled received)) b old new = ⊥
 CommitsOne before n r h c room (Err faults.OutOfMemory) b old new = (refusal n r h c ≡ None) × Keeps (began r c ∷ before) b new
     × Happens n (began r c ∷ []) old new
 
@@ -156,9 +168,12 @@ pub record Came (before : Events) (s : Step) (result : Result Answer DeskFault) 
   pub keeps : Keeps (rest ++ before) b new
   pub happens : Happens (length a) rest old new
 
--- a request was answered by its step
-abbrev pub Answers : Events → Request → Result Answer DeskFault → (ℕ → ℕ) → List Store → List Store → Outside → Outside → Type 0
-Answers before request result room a b old new = Came before (step (length a) (history_at before) request) result room a b old new
+-- A request was answered, all regions being read: a pair of them disagrees, or its step was made.
+pub record Answers (before : Events) (request : Request) (result : Result Answer DeskFault) (room : ℕ → ℕ) (a b : List Store) (old new : Outside) : Type 0 where
+  pub rest : Events
+  pub steps : Steps (length a) room before request rest result
+  pub keeps : Keeps (rest ++ before) b new
+  pub happens : Happens (length a) rest old new
 
 -- a command was committed to a region, and answered so
 abbrev pub Makes : Events → ℕ → Command → Reply → Result Answer DeskFault → (ℕ → ℕ) → List Store → List Store → Outside → Outside → Type 0
@@ -179,4 +194,5 @@ HasCause n (Ok a) old new = Unit {0}
 HasCause n (Err (faults.Volume v)) old new = (v < n) × Rises 1 (side.Volume v) old new
 HasCause n (Err (faults.Full v)) old new = v < n
 HasCause n (Err (faults.Damaged v offset)) old new = v < n
+HasCause n (Err (faults.Disagree from to sent last settled received)) old new = Unit {0}
 HasCause n (Err faults.OutOfMemory) old new = Unit {0}

@@ -3,11 +3,12 @@ ghost use Rattle.std.specs.Prelude.{◌≡◌, ◌≤◌, ◌<◌, ℕ, IsTrue, 
 ghost use Rattle.s3r_world.specs.Outside.{KeepsShape, NoneFalls};
 ghost use Rattle.s3r_record.specs.Spelling.{IsCommand};
 ghost use Rattle.s3r_desk.specs.Events.{Events, history_at};
-ghost use Rattle.s3r_desk.specs.Steps.{IsRequest, reply_at};
+ghost use Rattle.s3r_desk.specs.Steps.{IsRequest, reply_at, step};
 ghost use Rattle.s3r_desk.specs.Keeping.{Keeps, AreNumbered, AreTied, AreRead};
-ghost use Rattle.s3r_desk.specs.Responds.{Answers, Makes, HasCause};
+ghost use Rattle.s3r_desk.specs.Responds.{Came, Answers, Makes, HasCause};
 
 use crate::committing::{Committed, commit};
+use crate::comparing::disagreement;
 use crate::planning::{Plan, Reply, plan_of};
 use crate::{Answer, DeskFault, ObjectMetadata, Request};
 use s3r_names::{Kept, VersionId};
@@ -94,10 +95,49 @@ fn fetch<W: World>(
     }
 }
 
-/// Makes a request's step, once all regions are read, and answers it. A refusal leaves all as it was.
+// Makes a request's step, once all regions are read and agree.
+fn make_step<W: World>(
+    alloc: Global,
+    world: &mut W,
+    stores: &mut Vec<Store>,
+    request: Request,
+) -> Result<Answer, DeskFault>
+    requires volumes { length stores.old.items ≤ (W.shape world.old).volumes }
+    requires few { length stores.old.items ≤ 8 }
+    requires numbered { AreNumbered stores.old.items }
+    requires tied { IsTrue W.tells → AreTied stores.old.items (W.outside world.old) }
+    requires read { AreRead stores.old.items }
+    requires fits { IsRequest request }
+    ensures told { IsTrue W.tells → (before : Events) → Keeps before stores.old.items (W.outside world.old)
+        → Came before (step (length stores.old.items) (history_at before) request) result (W.shape world.old).room stores.old.items
+        stores.new.items (W.outside world.old) (W.outside world.new) }
+    ensures count { length stores.new.items ≡ length stores.old.items }
+    ensures numbered { AreNumbered stores.new.items }
+    ensures cause { HasCause (length stores.old.items) result (W.faults world.old) (W.faults world.new) }
+    ensures counts { NoneFalls (W.faults world.old) (W.faults world.new) }
+    ensures goes { W.goes world.old world.new }
+    ensures shape { KeepsShape (W.shape world.old) (W.shape world.new) }
+{
+    match plan_of(alloc, stores, request)? {
+        Plan::Shows(answer) => Ok(answer),
+        Plan::Fetches {
+            region,
+            object,
+            body,
+        } => fetch(alloc, world, stores, region, object, body),
+        Plan::Commits {
+            region,
+            command,
+            reply,
+        } => make(alloc, world, stores, region, command, reply),
+    }
+}
+
+/// Compares all pairs of regions, once all are read, and then makes a request's step and answers it. A refusal leaves all as
+/// it was.
 ///
-/// `Full` leaves all as it was. After `Volume` the commit to that region is in doubt, and the region unread. After
-/// `OutOfMemory` all is as it was, or the request's commit is in doubt.
+/// `Disagree` and `Full` leave all as it was. After `Volume` the commit to that region is in doubt, and the region unread.
+/// After `OutOfMemory` all is as it was, or the request's commit is in doubt.
 pub fn answer<W: World>(
     alloc: Global,
     world: &mut W,
@@ -119,17 +159,11 @@ pub fn answer<W: World>(
     ensures goes { W.goes world.old world.new }
     ensures shape { KeepsShape (W.shape world.old) (W.shape world.new) }
 {
-    match plan_of(alloc, stores, request)? {
-        Plan::Shows(answer) => Ok(answer),
-        Plan::Fetches {
-            region,
-            object,
-            body,
-        } => fetch(alloc, world, stores, region, object, body),
-        Plan::Commits {
-            region,
-            command,
-            reply,
-        } => make(alloc, world, stores, region, command, reply),
+    match disagreement(stores) {
+        None => make_step(alloc, world, stores, request),
+        Some(fault) => {
+            drop(request);
+            Err(fault)
+        }
     }
 }

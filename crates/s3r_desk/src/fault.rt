@@ -20,6 +20,20 @@ pub enum DeskFault {
         /// Where what is wrong begins.
         offset: u64,
     },
+    /// Two regions disagree on the tasks from one to the other: what the receiver has isn't what the sender's tasks allow.
+    #[error("r{from} r{to} disagree sent {sent} answered {answered} settled {settled} received {received}")]
+    Disagree {
+        from: u32,
+        to: u32,
+        /// How many tasks the sender has to the receiver.
+        sent: u64,
+        /// The number of the last of them that came to something.
+        answered: u64,
+        /// How many of them are no longer pending.
+        settled: u64,
+        /// The last number that the receiver has.
+        received: u64,
+    },
     /// There was no memory. A command may be in doubt.
     #[error("out of memory")]
     OutOfMemory,

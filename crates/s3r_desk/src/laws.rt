@@ -1,7 +1,7 @@
 //! What is true of every step.
 ghost use Rattle.s3r_desk.specs.Laws.{NoRegionIsMissing};
 ghost use Rattle.s3r_desk.specs.Laws.{CarefulEventsKeepAgreement, CarefulEventsCompose, FirstEventsAreCareful};
-ghost use Rattle.s3r_desk.specs.Laws.{WhatIsKnownIsThere, TurnsAreCareful};
+ghost use Rattle.s3r_desk.specs.Laws.{WhatIsKnownIsThere, TurnsAreCareful, AgreeingIsNotTold};
 
 /// No request is refused since a region isn't there.
 pub fn no_region_is_missing()
@@ -18,4 +18,9 @@ pub fn careful_events_keep_agreement()
     ensures first { FirstEventsAreCareful }
     ensures there { WhatIsKnownIsThere }
     ensures turns { TurnsAreCareful }
+{}
+
+/// No two regions that agree are told to disagree.
+pub fn agreeing_is_not_told()
+    ensures { AgreeingIsNotTold }
 {}

@@ -5,6 +5,7 @@ mod answering;
 mod bucket;
 mod bucket_location;
 mod committing;
+mod comparing;
 mod desk;
 mod fault;
 mod finding;

@@ -160,6 +160,23 @@ pub fn refusal(alloc: Global, cells: &str) -> Result<String, RowFault> {
     }
 }
 
+// The pair FROM TO, with the numbers SENT ANSWERED SETTLED RECEIVED.
+fn pair_of(numbers: &str) -> Result<DeskFault, RowFault> {
+    let (from, numbers) = first_word(numbers);
+    let (to, numbers) = first_word(numbers);
+    let (sent, numbers) = first_word(numbers);
+    let (answered, numbers) = first_word(numbers);
+    let (settled, received) = first_word(numbers);
+    Ok(DeskFault::Disagree {
+        from: from.parse::<u32>()?,
+        to: to.parse::<u32>()?,
+        sent: sent.parse::<u64>()?,
+        answered: answered.parse::<u64>()?,
+        settled: settled.parse::<u64>()?,
+        received: received.parse::<u64>()?,
+    })
+}
+
 fn fault_of(cell: &str) -> Result<DeskFault, RowFault> {
     let (name, numbers) = first_word(cell);
     let (region, offset) = first_word(numbers);
@@ -170,12 +187,14 @@ fn fault_of(cell: &str) -> Result<DeskFault, RowFault> {
             v: region.parse::<u32>()?,
             offset: offset.parse::<u64>()?,
         }),
+        "Disagree" => pair_of(numbers),
         "OutOfMemory" => Ok(DeskFault::OutOfMemory),
         _ => Err(RowFault::NoRow),
     }
 }
 
-/// `fault | FLAGS | NAME REGION OFFSET`, with as many numbers as the fault has.
+/// `fault | FLAGS | NAME REGION OFFSET` or `fault | FLAGS | Disagree FROM TO SENT ANSWERED SETTLED RECEIVED`, with as many
+/// numbers as the fault has.
 pub fn fault(alloc: Global, cells: &str) -> Result<String, RowFault> {
     let (flags, fault) = first_cell(cells);
     let fault = fault_of(fault)?;

@@ -10,3 +10,4 @@ mod Prescribed
 mod Applied
 pub mod Views
 mod Received
+pub mod Counts

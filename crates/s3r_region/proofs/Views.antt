@@ -110,7 +110,7 @@ status-folded ts b row = go (is_some row.origin) (sym (ap (λ xs. by_tasks (map 
 
 -- ---- the tasks of a state are those of its history
 
-region-tasks : (s : Contents) (h : History) → IsAfter s h → (d : ℕ) → to_region s.outbox d ≡ placed_tasks h (deeds s.region h) d
+pub region-tasks : (s : Contents) (h : History) → IsAfter s h → (d : ℕ) → to_region s.outbox d ≡ placed_tasks h (deeds s.region h) d
 region-tasks s h a d = go (nat_lt d s.regions) refl
   where
     go : (t : Bool) → nat_lt d s.regions ≡ t → to_region s.outbox d ≡ placed_tasks h (deeds s.region h) d

@@ -1,10 +1,10 @@
 //! The queues of a region.
 
-ghost use Rattle.std.specs.Prelude.{◌≡◌, ◌<◌, ◌≤◌, ℕ, IsTrue, [], ◌∷◌, IfOk, OnOk, length, if◌then◌else◌, Some, None};
+ghost use Rattle.std.specs.Prelude.{◌≡◌, ◌+◌, ◌<◌, ◌≤◌, ℕ, IsTrue, [], ◌∷◌, IfOk, OnOk, length, if◌then◌else◌, Some, None};
 ghost use Rattle.std.specs.List.{list_any};
 ghost use Rattle.s3r_record.specs.declared.command.Command.{Command};
 ghost use Rattle.s3r_queue.specs.Received.{watermark_of, last_from};
-ghost use Rattle.s3r_queue.specs.Tasks.{waits, first_of};
+ghost use Rattle.s3r_queue.specs.Tasks.{waits, first_of, answered_of};
 ghost use Rattle.s3r_queue.specs.Queues.{to_region};
 ghost use Rattle.s3r_history.specs.Words.{History};
 ghost use Rattle.s3r_history.specs.Past.{Carried};
@@ -63,6 +63,19 @@ impl Queues {
         ensures count { length self.now.outbox ≡ self.now.regions }
     {
         &self.outbox
+    }
+
+    /// How far the tasks to a region are; none of each where it isn't there.
+    pub(crate) fn counts(&self, to: u32) -> (u64, u64, u64)
+        ensures sent { result.0 ≡ length (to_region self.now.outbox to) }
+        ensures answered { result.1 ≡ answered_of (to_region self.now.outbox to) }
+        ensures settled { result.2 + 1 ≡ first_of (to_region self.now.outbox to) }
+    {
+        if to < self.regions {
+            self.outbox.counts(to)
+        } else {
+            (0, 0, 0)
+        }
     }
 
     pub(crate) fn inbox(&self) -> &Inbox

@@ -62,6 +62,8 @@ impl Model for State {
 
 impl State {
     ghost use Rattle.std.specs.Prelude.{length};
+    ghost use Rattle.s3r_queue.specs.Queues.{to_region};
+    ghost use Rattle.s3r_queue.specs.Tasks.{first_of, answered_of};
     ghost use Rattle.s3r_region.specs.Contents.{is_named, have_ids};
     ghost use Rattle.s3r_region.specs.After.{IsAfter, seen_bucket, seen};
     ghost use Rattle.s3r_region.specs.Changes.{next_stamp, with_change, without_first, new_bucket, IsNext};
@@ -123,6 +125,16 @@ impl State {
         ensures { result.now ≡ self.now.outbox }
     {
         self.queues.outbox()
+    }
+
+    /// How many tasks there are to a region, the greatest number of one that came to something, and how many are no longer
+    /// pending; none of each where the region isn't there.
+    pub fn counts(&self, to: u32) -> (u64, u64, u64)
+        ensures sent { result.0 ≡ length (to_region self.now.outbox to) }
+        ensures answered { result.1 ≡ answered_of (to_region self.now.outbox to) }
+        ensures settled { result.2 + 1 ≡ first_of (to_region self.now.outbox to) }
+    {
+        self.queues.counts(to)
     }
 
     /// What was received last from each region.

@@ -58,6 +58,7 @@ fails_by v (Ok (Ok x)) a b falls counted = rises_none (side.Volume v) a b falls
 fails_by v (Ok (Err (faults.Volume u))) a b falls counted = fails_volume u v a b falls counted (eqb u v) refl
 fails_by v (Ok (Err (faults.Full u))) a b falls counted = rises_none (side.Volume v) a b falls
 fails_by v (Ok (Err (faults.Damaged u offset))) a b falls counted = rises_none (side.Volume v) a b falls
+fails_by v (Ok (Err (faults.Disagree from to sent last settled received))) a b falls counted = rises_none (side.Volume v) a b falls
 fails_by v (Ok (Err faults.OutOfMemory)) a b falls counted = rises_none (side.Volume v) a b falls
 fails_by v (Err problem) a b falls counted = rises_none (side.Volume v) a b falls
 

@@ -1,5 +1,5 @@
 -- The desk puts nothing out.
-use Rattle.std.proofs.Common.{◌≡◌, ℕ, List, [], ◌∷◌, ◌++◌, Result, Ok, Err, refl, ◌∙◌, ap, ⊎_elim}
+use Rattle.std.proofs.Common.{◌≡◌, ℕ, List, [], ◌∷◌, ◌++◌, Option, Some, None, Result, Ok, Err, refl, ◌∙◌, ap, ⊎_elim}
 use Rattle.s3r_history.specs.Words.{History}
 use Rattle.s3r_desk.specs.declared.fault.DeskFault.{DeskFault}
 use Rattle.s3r_desk.specs.declared.fault.DeskFault.TheVariants as faults
@@ -7,7 +7,8 @@ use Rattle.s3r_desk.specs.declared.request.Request.{Request}
 use Rattle.s3r_desk.specs.declared.request.Answer.{Answer}
 use Rattle.s3r_desk.specs.Events.{found, began, answered, Events, history_at}
 use Rattle.s3r_desk.specs.Steps.{Commit, Histories, made, after_commit, step}
-use Rattle.s3r_desk.specs.Responds.{IsBelow, AreTouched, StopsAt, Comes, IsTurn}
+use Rattle.s3r_desk.specs.Comparing.{disagreement}
+use Rattle.s3r_desk.specs.Responds.{IsBelow, AreTouched, StopsAt, Comes, StepsUnless, IsTurn}
 use Rattle.s3r_service.specs.Passing.{output_of}
 use Rattle.s3r_service.proofs.Passing.{output_then}
 
@@ -36,16 +37,22 @@ comes_silent room at commits reply events (Ok a) comes = ap output_of comes.1 �
 comes_silent room at commits reply events (Err (faults.Volume v)) comes = stops_silent room at commits events comes.stops (ap output_of comes.doubt)
 comes_silent room at commits reply events (Err (faults.Full v)) comes = stops_silent room at commits events comes.stops (ap output_of comes.none)
 comes_silent room at commits reply events (Err (faults.Damaged v offset)) comes = absurd comes
+comes_silent room at commits reply events (Err (faults.Disagree from to sent last settled received)) comes = absurd comes
 comes_silent room at commits reply events (Err faults.OutOfMemory) comes = ⊎_elim
     (λ none. ap output_of none)
     (λ (stops, last). stops_silent room at commits events stops (⊎_elim (λ none. ap output_of none) (λ doubt. ap output_of doubt) last))
     comes
+
+steps_silent : (fault : Option DeskFault) (n : ℕ) (room : ℕ → ℕ) (at : Histories) (request : Request) (events : Events) (result : Result Answer DeskFault)
+    → StepsUnless fault n room at request events result → output_of events ≡ []
+steps_silent None n room at request events result steps = let s = step n at request in comes_silent room at s.commits s.reply events result steps
+steps_silent (Some fault) n room at request events result steps = ap output_of steps.1
 
 pub turn_silent : (P : ℕ → History → Type 0) (n : ℕ) (room : ℕ → ℕ) (before : Events) (request : Request) (result : Result Answer DeskFault) (events : Events)
     → IsTurn P n room before request result events → output_of events ≡ []
 turn_silent P n room before request result events t =
     ap output_of t.parts ∙ output_then t.rest t.touched ∙ ap (λ (l : List ℕ). l ++ output_of t.rest) (touched_silent P (IsBelow n) before t.touched t.touches)
     ∙ ⊎_elim
-    (λ (known, comes). let at = history_at (t.touched ++ before) in let s = step n at request in comes_silent room at s.commits s.reply t.rest result comes)
+    (λ (known, steps). let at = history_at (t.touched ++ before) in steps_silent (disagreement n at) n room at request t.rest result steps)
     (λ (none, fails). ap output_of none)
     t.steps

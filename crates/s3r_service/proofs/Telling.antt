@@ -80,6 +80,7 @@ counted_by n (Ok x) a b cause = tt
 counted_by n (Err (faults.Volume u)) a b cause = cause.1
 counted_by n (Err (faults.Full u)) a b cause = tt
 counted_by n (Err (faults.Damaged u offset)) a b cause = tt
+counted_by n (Err (faults.Disagree from to sent last settled received)) a b cause = tt
 counted_by n (Err faults.OutOfMemory) a b cause = tt
 
 -- no count has fallen since
@@ -88,6 +89,7 @@ counted_before (Ok (Ok x)) a b d falls counted = tt
 counted_before (Ok (Err (faults.Volume u))) a b d falls counted = rises_before 1 (side.Volume u) a b d counted falls
 counted_before (Ok (Err (faults.Full u))) a b d falls counted = tt
 counted_before (Ok (Err (faults.Damaged u offset))) a b d falls counted = tt
+counted_before (Ok (Err (faults.Disagree from to sent last settled received))) a b d falls counted = tt
 counted_before (Ok (Err faults.OutOfMemory)) a b d falls counted = tt
 counted_before (Err problem) a b d falls counted = tt
 

@@ -52,6 +52,7 @@ IsCounted (Ok (Ok answer)) before after = Unit {0}
 IsCounted (Ok (Err (faults.Volume v))) before after = Rises 1 (side.Volume v) before after
 IsCounted (Ok (Err (faults.Full v))) before after = Unit {0}
 IsCounted (Ok (Err (faults.Damaged v offset))) before after = Unit {0}
+IsCounted (Ok (Err (faults.Disagree from to sent last settled received))) before after = Unit {0}
 IsCounted (Ok (Err faults.OutOfMemory)) before after = Unit {0}
 IsCounted (Err problem) before after = Unit {0}
 
@@ -121,6 +122,7 @@ fails_at v (Ok (Ok answer)) = 0
 fails_at v (Ok (Err (faults.Volume u))) = if u == v then 1 else 0
 fails_at v (Ok (Err (faults.Full u))) = 0
 fails_at v (Ok (Err (faults.Damaged u offset))) = 0
+fails_at v (Ok (Err (faults.Disagree from to sent last settled received))) = 0
 fails_at v (Ok (Err faults.OutOfMemory)) = 0
 fails_at v (Err problem) = 0
 
