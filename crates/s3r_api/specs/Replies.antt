@@ -127,6 +127,7 @@ refusal_reply (refusal.NotFirst first) = coded 409 (codes "NotFirst")
 refusal_reply refusal.TooManyBuckets = coded 400 (codes "TooManyBuckets")
 refusal_reply refusal.NoSuchKey = coded 404 (codes "NoSuchKey")
 refusal_reply refusal.InvalidLocation = coded 400 (codes "InvalidLocationConstraint")
+refusal_reply refusal.InvalidArgument = coded 400 (codes "InvalidArgument")
 
 abbrev pub marked_status : Bool → ℕ
 marked_status named = if named then 405 else 404

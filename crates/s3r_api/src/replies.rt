@@ -178,6 +178,7 @@ pub fn refusal_reply(alloc: Global, refusal: Refusal) -> Result<JsonReply, Alloc
         Refusal::InvalidLocation => {
             coded(alloc, StatusCode::BAD_REQUEST, "InvalidLocationConstraint")
         }
+        Refusal::InvalidArgument => coded(alloc, StatusCode::BAD_REQUEST, "InvalidArgument"),
     }
 }
 

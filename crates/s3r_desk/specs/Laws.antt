@@ -29,6 +29,7 @@ is_told refusals.NoReplication = true
 is_told refusals.LockNeeded = true
 is_told refusals.TooManyBuckets = true
 is_told refusals.InvalidLocation = true
+is_told refusals.InvalidArgument = true
 is_told (refusals.InvalidRequest rule kind) = true
 is_told (refusals.NoSuchRegion region) = false
 is_told (refusals.NotNext watermark) = false

@@ -147,6 +147,7 @@ fn refusal_named(name: &str) -> Option<Refusal> {
         "LockNeeded" => Some(Refusal::LockNeeded),
         "TooManyBuckets" => Some(Refusal::TooManyBuckets),
         "InvalidLocation" => Some(Refusal::InvalidLocation),
+        "InvalidArgument" => Some(Refusal::InvalidArgument),
         _ => None,
     }
 }

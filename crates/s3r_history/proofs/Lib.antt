@@ -16,3 +16,4 @@ pub mod QueueSteps
 pub mod Beyond
 pub mod Agreeing
 pub mod Within
+pub mod ShortSends

@@ -14,8 +14,10 @@ pub mod Tasks
 pub mod Statuses
 pub mod Beyond
 pub mod RegionView
+pub mod Due
 pub mod Kept
 pub mod Accepts
 pub mod Laws
+pub mod SentLaws
 pub mod Agree
 pub mod AgreeLaws

@@ -4,6 +4,7 @@ ghost use Rattle.s3r_history.specs.Laws.{RowsAreListed, IdsAreGiven, IdsAreNew, 
 ghost use Rattle.s3r_history.specs.Laws.{RowsAreWritten, PutRowsAreWritten, FirstGreatestIsOne, NamesAreThose, NoNameTwice};
 ghost use Rattle.s3r_history.specs.AgreeLaws.{StaysAtSender, StaysAtReceiver, StaysWithItself, StaysAtReceive, StaysAtOwnReceive};
 ghost use Rattle.s3r_history.specs.AgreeLaws.{StaysAtSettle, StaysAtOwnSettle, MayArriveLater, WasReceivedLater, AgreeingIsWithin};
+ghost use Rattle.s3r_history.specs.SentLaws.{SentIsShort};
 
 /// A bucket's rows stand in the listing order, no id is one of a later command, the next id is new, what was put last is
 /// the latest while the clock runs, what was removed is gone, and tags and holds are those that were first written under
@@ -44,4 +45,9 @@ pub fn agreement_is_kept()
 /// No two regions that agree are told to disagree by their counts.
 pub fn agreeing_is_within()
     ensures { AgreeingIsWithin }
+{}
+
+/// All that a lawful history prescribed meets the limits of a record.
+pub fn sent_is_short()
+    ensures { SentIsShort }
 {}

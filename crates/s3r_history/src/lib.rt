@@ -2,12 +2,16 @@
 //! commands it accepts.
 #![tactic(auto)]
 
+mod due;
 mod laws;
 mod refusal;
 mod replication;
 mod sent;
 
-pub use laws::{agreeing_is_within, agreement_is_kept, buckets_are_counted, rows_are_listed};
+pub use due::Due;
+pub use laws::{
+    agreeing_is_within, agreement_is_kept, buckets_are_counted, rows_are_listed, sent_is_short,
+};
 pub use refusal::Refusal;
 pub use replication::Replication;
 pub use sent::{Prescribed, Sent};

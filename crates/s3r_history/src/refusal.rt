@@ -2,9 +2,9 @@
 
 use s3r_rules::Kind;
 
-/// Why a command, or the request that asks for it, is refused. No command is refused for `NoSuchKey`, `InvalidLocation`
-/// and `InvalidRequest`: they are a desk's answers. No desk answers `NoSuchRegion`, `NotNext` or `NotFirst`: they never
-/// leave it.
+/// Why a command, or the request that asks for it, is refused. No command is refused for `NoSuchKey`, `InvalidLocation`,
+/// `InvalidArgument` and `InvalidRequest`: they are a desk's answers. No desk answers `NoSuchRegion`, `NotNext` or
+/// `NotFirst`: they never leave it.
 #[derive(Clone, Copy, Debug, PartialEq, Eq)]
 pub enum Refusal {
     /// The region has no bucket of this name.
@@ -31,6 +31,8 @@ pub enum Refusal {
     TooManyBuckets,
     /// No region has this name.
     InvalidLocation,
+    /// No region has this number.
+    InvalidArgument,
     /// A rule of a configuration, counted from 1, is wrong so.
     InvalidRequest { rule: u32, kind: Kind },
     /// There are fewer regions.

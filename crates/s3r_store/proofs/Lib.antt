@@ -5,3 +5,5 @@ pub mod Composed
 pub mod Committed
 pub mod Damaged
 pub mod Left
+pub mod Lawful
+pub mod FirstPending

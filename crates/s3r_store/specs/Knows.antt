@@ -32,6 +32,14 @@ pub record Knows (n v : ℕ) (held : LoadedRegion) (h : History) (w : Outside) :
 abbrev pub IsKnown : (n v : ℕ) → LoadedRegion → Outside → Type 0
 IsKnown n v held w = (h : History) × Knows n v held h w
 
+-- the store was read, and its state is after this history
+abbrev pub IsStoreAfter : Store → History → Type 0
+IsStoreAfter store h = IsSomeAnd store.held (λ held. IsAfter held.state h)
+
+-- it is after some lawful history, whatever the world tells
+abbrev pub IsAfterSome : Store → Type 0
+IsAfterSome store = ∥ ((h : History) × IsStoreAfter store h × IsLawful store.regions store.v h) ∥₁
+
 -- the store was read, and its history is this one
 abbrev pub Holds : Store → History → Outside → Type 0
 Holds store h w = IsSomeAnd store.held (λ held. Knows store.regions store.v held h w)

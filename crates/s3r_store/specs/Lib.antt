@@ -1,5 +1,7 @@
 pub mod Stands
 pub mod Writes
+pub mod Loaded
+pub mod Pending
 pub mod Knows
 pub mod Commits
 pub mod Reads

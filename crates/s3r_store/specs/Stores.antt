@@ -10,7 +10,7 @@ use Rattle.s3r_store.specs.declared.fault.StoreFault.{StoreFault}
 use Rattle.s3r_store.specs.declared.fault.StoreFault.TheVariants as faults
 use Rattle.s3r_store.specs.declared.loaded_region.LoadedRegion.{LoadedRegion}
 use Rattle.s3r_store.specs.declared.store.Store.{Store}
-use Rattle.s3r_store.specs.Knows.{Holds}
+use Rattle.s3r_store.specs.Knows.{IsStoreAfter, Holds}
 use Rattle.s3r_store.specs.Commits.{Commits, length_with}
 
 abbrev pub state_of : Store → Option Contents
@@ -22,6 +22,14 @@ end_in (Some held) = unwrap_or held.end 0
 
 abbrev pub end_of : Store → ℕ
 end_of store = end_in store.held
+
+-- where a command is refused, each history that the state is after refuses it so
+abbrev pub IsRefusal : Store → Command → StoreFault → Type 0
+IsRefusal store c (faults.Refused f) = (h : History) → IsStoreAfter store h → refusal store.regions store.v h c ≡ Some f
+IsRefusal store c (faults.Full u) = Unit {0}
+IsRefusal store c (faults.Volume u) = Unit {0}
+IsRefusal store c (faults.Damaged u offset) = Unit {0}
+IsRefusal store c faults.OutOfMemory = Unit {0}
 
 -- what a commit behind this history came to
 abbrev pub StoreCommits : (n v : ℕ) → History → Command → Result ℕ StoreFault → ℕ → Store → Store → Outside → Outside → Type 0

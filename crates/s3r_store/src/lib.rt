@@ -1,6 +1,8 @@
 //! One region over its volume: its state as the volume has it, and commands that are committed to both.
 #![tactic(auto)]
 
+mod carrying;
+mod due;
 mod fault;
 mod laws;
 mod loaded_region;

@@ -22,6 +22,7 @@ pub struct LoadedRegion {
 
 impl LoadedRegion {
     ghost use Rattle.s3r_store.specs.Knows.{Knows, CanCommit};
+    ghost use Rattle.s3r_store.specs.Loaded.{IsDenied};
     ghost use Rattle.s3r_store.specs.Commits.{HasWritten, HasCommitted, IsCause, WhereDenied};
     ghost use Rattle.s3r_history.specs.Accepts.{refusal};
     ghost use Rattle.s3r_region.specs.After.{IsAfter};
@@ -42,6 +43,7 @@ impl LoadedRegion {
         ensures told { IsTrue W.tells → (h : History) → (n : ℕ) → Knows n v self.now h (W.outside world.old) →
             HasWritten n v h command.now result ((W.shape world.old).room v) (W.outside world.old) (W.outside world.new) }
         ensures accepted { OnOk result ((h : History) → IsAfter self.now.state h → refusal self.now.state.regions self.now.state.region h command.now ≡ None) }
+        ensures refused { IfErr result (IsDenied self.now command.now) }
         ensures later { IfOk result (λ end. unwrap_or self.now.end 16 + 5 ≤ end) }
         ensures denied { WhereDenied result (world.new ≡ world.old) }
         ensures cause { IsCause v result (W.faults world.old) (W.faults world.new) }
@@ -91,6 +93,11 @@ impl LoadedRegion {
         requires fits { IsCommand command }
         ensures told { IsTrue W.tells → (h : History) → (n : ℕ) → Knows n v self.old h (W.outside world.old)
             → HasCommitted n v h command result ((W.shape world.old).room v) self.old self.new (W.outside world.old) (W.outside world.new) }
+        ensures after { OnOk result ((h : History) → IsAfter self.old.state h
+            → (refusal self.old.state.regions self.old.state.region h command ≡ None) × IsAfter self.new.state (command ∷ h)) }
+        ensures region { OnOk result (self.new.state.region ≡ self.old.state.region) }
+        ensures regions { OnOk result (self.new.state.regions ≡ self.old.state.regions) }
+        ensures refused { IfErr result (IsDenied self.old command) }
         ensures few { OnOk result (self.new.state.commands + 16 ≤ unwrap_or self.new.end 16) }
         ensures denied { WhereDenied result ((self.new ≡ self.old) × (world.new ≡ world.old)) }
         ensures cause { IsCause v result (W.faults world.old) (W.faults world.new) }

@@ -3,6 +3,7 @@ ghost use Rattle.std.specs.Prelude.{◌≡◌, ◌+◌, ◌≤◌, ◌<◌, ◌^
 ghost use Rattle.s3r_world.specs.Outside.{KeepsShape, NoneFalls, Looks};
 ghost use Rattle.s3r_history.specs.Words.{History};
 ghost use Rattle.s3r_store.specs.Knows.{IsKnown};
+ghost use Rattle.s3r_store.specs.Loaded.{IsLoaded};
 ghost use Rattle.s3r_store.specs.Reads.{TakesIn, IsDamage, HasCause};
 
 use crate::{LoadedRegion, StoreFault};
@@ -63,6 +64,7 @@ pub fn read_volume<W: World>(
     requires some { 1 ≤ regions }
     ensures told { IsTrue W.tells → Looks (W.outside world.old) (W.outside world.new) }
     ensures known { IsTrue W.tells → IfOk result (λ held. IsKnown regions v held (W.outside world.new)) }
+    ensures lawful { IfOk result (IsLoaded regions v) }
     ensures few { IfOk result (λ held. held.state.commands + 16 ≤ unwrap_or held.end 16) }
     ensures damage { IsTrue W.tells → IfErr result (IsDamage regions v ((W.outside world.old).as_read.volume v)) }
     ensures cause { IfErr result (λ e. HasCause v e (W.faults world.old) (W.faults world.new)) }

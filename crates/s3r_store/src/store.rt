@@ -1,11 +1,13 @@
 //! One region over its volume.
-ghost use Rattle.std.specs.Prelude.{◌≡◌, ◌+◌, ◌≤◌, ◌<◌, ℕ, IsTrue, IsSome, IsOk, IfErr, IfOk, OnOk, OnErr, None, option_copied, unwrap_or};
+ghost use Rattle.std.specs.Prelude.{◌≡◌, ◌∷◌, ◌+◌, ◌≤◌, ◌<◌, ℕ, IsTrue, IsSome, IsOk, IfErr, IfOk, OnOk, OnErr, None, option_copied, unwrap_or};
 ghost use Rattle.std.specs.Option.{ForSome};
+ghost use Rattle.s3r_store.specs.Loaded.{IsLoaded};
 
 use crate::reading::read_volume;
 use crate::{LoadedRegion, StoreFault};
-use s3r_names::{Bytes, Kept};
-use s3r_record::Command;
+use s3r_names::{Bytes, Kept, Outcome};
+use s3r_queue::Arrival;
+use s3r_record::{Command, Effect};
 use s3r_region::State;
 use s3r_world::World;
 use std::alloc::Global;
@@ -21,15 +23,21 @@ pub struct Store {
     pub held: Option<LoadedRegion>,
     // Each record is at least five bytes long.
     ghost few: { ForSome held (λ held. held.state.commands + 16 ≤ unwrap_or held.end 16) },
+    // Whatever the world tells, the state is after some lawful history.
+    pub ghost lawful: { ForSome held (λ held. ∥ IsLoaded regions v held ∥₁) },
 }
 
 impl Store {
     ghost use Rattle.s3r_world.specs.Outside.{KeepsShape, NoneFalls, Looks};
+    ghost use Rattle.s3r_queue.specs.Received.{arrival_of};
     ghost use Rattle.s3r_history.specs.Words.{History};
+    ghost use Rattle.s3r_history.specs.Deeds.{deeds, judge};
+    ghost use Rattle.s3r_history.specs.Tasks.{last_from};
     ghost use Rattle.s3r_record.specs.Spelling.{IsCommand};
-    ghost use Rattle.s3r_store.specs.Knows.{Holds, Ties};
+    ghost use Rattle.s3r_history.specs.Accepts.{refusal};
+    ghost use Rattle.s3r_store.specs.Knows.{IsStoreAfter, IsAfterSome, Holds, Ties};
     ghost use Rattle.s3r_store.specs.Reads.{IsDamage, HasCause};
-    ghost use Rattle.s3r_store.specs.Stores.{StoreCommits, state_of, end_of};
+    ghost use Rattle.s3r_store.specs.Stores.{StoreCommits, IsRefusal, state_of, end_of};
     ghost use Rattle.s3r_store.specs.Commits.{IsCause, WhereDenied};
 
     /// The store of this region, one of so many. Nothing is read yet.
@@ -77,6 +85,35 @@ impl Store {
         ensures { result ≡ self.now.regions }
     {
         self.regions
+    }
+
+    /// What was read is after some lawful history, whatever the world tells.
+    pub fn is_after_some(&self)
+        ensures { IsSome self.now.held → IsAfterSome self.now }
+    {}
+
+    /// Whether the task of this number from another region is new here.
+    pub fn arrival(&self, from: u32, number: u64) -> Arrival
+        requires read { IsSome self.now.held }
+        requires number { 1 ≤ number }
+        requires there { from < self.now.regions }
+        ensures { (h : History) → IsStoreAfter self.now h → result ≡ arrival_of (last_from (deeds self.now.v h) from) number }
+    {
+        let Some(held) = &self.held else {
+            unreachable!();
+        };
+        held.state.inbox().judge(from, number)
+    }
+
+    /// What an effect would come to here.
+    pub fn judge(&self, effect: &Effect<Bytes>) -> Outcome
+        requires read { IsSome self.now.held }
+        ensures { (h : History) → IsStoreAfter self.now h → result ≡ judge self.now.v h effect.now }
+    {
+        let Some(held) = &self.held else {
+            unreachable!();
+        };
+        held.state.judge(effect)
     }
 
     /// Reads the volume, where that isn't done yet. The volume stays as it is.
@@ -129,6 +166,9 @@ impl Store {
             (W.outside world.new) }
         ensures v { self.new.v ≡ self.old.v }
         ensures regions { self.new.regions ≡ self.old.regions }
+        ensures after { OnOk result ((h : History) → IsStoreAfter self.old h
+            → (refusal self.old.regions self.old.v h command ≡ None) × IsStoreAfter self.new (command ∷ h)) }
+        ensures refused { IfErr result (IsRefusal self.old command) }
         ensures denied { WhereDenied result ((self.new.held ≡ self.old.held) × (world.new ≡ world.old)) }
         ensures cause { IsCause self.old.v result (W.faults world.old) (W.faults world.new) }
         ensures counts { NoneFalls (W.faults world.old) (W.faults world.new) }
