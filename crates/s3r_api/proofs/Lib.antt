@@ -7,4 +7,6 @@ pub mod LastEntry
 pub mod Pairs
 pub mod Whole
 pub mod NoFloats
+pub mod CopyFloats
+pub mod CopyExamples
 pub mod ListingExamples

@@ -1,5 +1,5 @@
 -- What some targets and bodies ask for.
-use Rattle.std.proofs.Common.{◌≡◌, ℕ, true, false, List, [], ◌∷◌, Result, Ok, Err, Some, None, codes, refl}
+use Rattle.std.proofs.Common.{◌≡◌, ℕ, true, false, List, [], ◌∷◌, ◌++◌, Result, Ok, Err, Some, None, codes, refl}
 use Rattle.std.specs.Str.{is_utf8, chars}
 use Rattle.percent_encoding.specs.Percent.{percent_decode}
 use Rattle.form_urlencoded.specs.Form.{raw_pairs, split}
@@ -63,6 +63,22 @@ top = refl
 jobs : get (codes "/v20180820/jobs/x") ≡ Err problem.UnknownQuery
 unfolding get asked request_of place_of read raw_pairs split percent_decode is_utf8 chars lib.Utf8.encode
 jobs = refl
+
+copy : List ℕ → Result Request Problem
+unfolding asked
+copy words = request_of (asked (codes "POST") (codes "/_s3r/copy?" ++ words) [] (codes "x"))
+
+from_0_to_1 : copy (codes "to=1&from=0") ≡ Ok (request.Copy 0 1)
+unfolding copy asked request_of place_of read raw_pairs split percent_decode is_utf8 chars lib.Utf8.encode
+from_0_to_1 = refl
+
+no_receiver : copy (codes "from=0") ≡ Err problem.InvalidQuery
+unfolding copy asked request_of place_of read raw_pairs split percent_decode is_utf8 chars lib.Utf8.encode
+no_receiver = refl
+
+leading_zero : copy (codes "from=01&to=1") ≡ Err problem.InvalidQuery
+unfolding copy asked request_of place_of read raw_pairs split percent_decode is_utf8 chars lib.Utf8.encode
+leading_zero = refl
 
 other_method : get (codes "/aaa/") ≡ Err problem.WrongMethod
 unfolding get asked request_of place_of bucket_request read raw_pairs split percent_decode is_utf8 chars lib.Utf8.encode

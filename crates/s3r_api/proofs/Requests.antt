@@ -1,5 +1,5 @@
 -- What is true of each request that is read, and of each reason why one isn't.
-use Rattle.std.proofs.Common.{◌≡◌, ◌≤◌, if◌then◌else◌, ℕ, List, [], ◌∷◌, length, Option, Some, None, Bool, true, false, refl, sym, subst, ◌∙◌, nat_lt, IfOk, IfErr, Result, Ok, Err, codes}
+use Rattle.std.proofs.Common.{◌≡◌, ◌≤◌, if◌then◌else◌, ℕ, List, [], ◌∷◌, length, Option, Some, None, Bool, true, false, refl, sym, subst, ◌∙◌, nat_lt, IfOk, IfErr, Result, Ok, Err, codes, option_and_then}
 use Rattle.serde_json.specs.Data.{Data}
 use Rattle.serde_json.specs.Read.{read}
 use Rattle.std.specs.Str.{is_utf8}
@@ -33,6 +33,8 @@ use Rattle.s3r_routes.specs.declared.rows.Route.TheVariants as route
 use Rattle.s3r_routes.specs.Target.{Target, bucket, object}
 use Rattle.s3r_routes.specs.Query as query
 use Rattle.s3r_routes.specs.Query.{Pair}
+use Rattle.s3r_routes.specs.Numbers.{number_named}
+use Rattle.s3r_routes.specs.declared.words.Word.{Word}
 use Rattle.s3r_routes.specs.declared.words.Word.TheVariants as word
 use Rattle.s3r_routes.specs.Rows.{route_of}
 use Rattle.s3r_routes.specs.Names.{bucket_named, key_named, key_written, version_named}
@@ -49,7 +51,7 @@ use Rattle.s3r_api.specs.Problems.{Gives, IsOfRequest}
 use Rattle.s3r_api.specs.Faults.{of_route, of_body, routed, from_body, from_config}
 use Rattle.s3r_api.specs.Location.{location_in, region_of_text, region_of_value, region_of}
 use Rattle.s3r_api.specs.Lines.{first_line, lock_word, locked_by, tags_in, tags_by, hold_word, hold_by, class_in, class_by}
-use Rattle.s3r_api.specs.Request.{◌>>=◌, asked_at, limit_asked, id_behind, place_behind, list_request, if_recorded, replication_request, bucket_asked, written_by, put_request, version_asked, is_put, object_asked, bucket_request, object_request, other_request, request_at}
+use Rattle.s3r_api.specs.Request.{◌>>=◌, asked_at, limit_asked, id_behind, place_behind, list_request, if_recorded, replication_request, bucket_asked, written_by, put_request, version_asked, is_put, object_asked, bucket_request, object_request, region_from, region_asked, copy_request, desk_asked, other_request, request_at}
 
 -- a result whose value has P, or whose reason is one of a framed request
 abbrev pub ReadsAs : {X : Type 0} → (X → Type 0) → Result X Problem → Type 0
@@ -349,8 +351,27 @@ reads-object raw bytes written =
     (λ key keyed. reads-bind Any (Fits raw) (asked_at raw (object bytes written)) _ (reads-asked raw (object bytes written))
     (λ asked any. reads-object_asked raw asked.words name key asked.route named keyed)))
 
+-- ---- the desk's own requests
+
+reads-region_from : (region : Option ℕ) → ReadsAs Any (region_from region)
+reads-region_from None = tt
+reads-region_from (Some region) = tt
+
+reads-region_asked : (w : Word) (words : List Pair) → ReadsAs Any (region_asked w words)
+reads-region_asked w words = reads-region_from (option_and_then (number_named 4294967295) (query.value w words))
+
+reads-copy : (raw : RawRequest) (words : List Pair) → ReadsAs (Fits raw) (copy_request words)
+reads-copy raw words =
+    reads-bind Any (Fits raw) (region_asked word.From words) _ (reads-region_asked word.From words)
+    (λ from any. reads-bind Any (Fits raw) (region_asked word.To words) _ (reads-region_asked word.To words) (λ to any short. tt))
+
+reads-desk_asked : (raw : RawRequest) (words : List Pair) (r : Route) → ReadsAs (Fits raw) (desk_asked words r)
+reads-desk_asked raw words route.Copy = reads-copy raw words
+reads-desk_asked raw words other = tt
+
 reads-other : (raw : RawRequest) (place : Target) → ReadsAs (Fits raw) (other_request raw place)
-reads-other raw place = reads-bind Any (Fits raw) (asked_at raw place) _ (reads-asked raw place) (λ asked any. tt)
+reads-other raw place = reads-bind Any (Fits raw) (asked_at raw place) _ (reads-asked raw place)
+    (λ asked any. reads-desk_asked raw asked.words asked.route)
 
 pub reads-at : (raw : RawRequest) (place : Target) → ReadsAs (Fits raw) (request_at raw place)
 reads-at raw (bucket bytes) = reads-bucket raw bytes

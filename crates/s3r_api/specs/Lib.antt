@@ -7,5 +7,6 @@ pub mod Asking
 pub mod Ids
 pub mod Replication
 pub mod Listings
+pub mod Copying
 pub mod Replies
 pub mod Texts

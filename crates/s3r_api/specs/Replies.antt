@@ -19,6 +19,7 @@ use Rattle.s3r_json.specs.Tags.{tags_data}
 use Rattle.s3r_json.specs.Status.{status_data}
 use Rattle.s3r_api.specs.Ids.{id_text}
 use Rattle.s3r_api.specs.Listings.{listing_data}
+use Rattle.s3r_api.specs.Copying.{copy_data}
 use Rattle.s3r_api.specs.Replication.{status_word}
 use Rattle.s3r_api.specs.declared.problem.Problem.{Problem}
 use Rattle.s3r_api.specs.declared.problem.Problem.TheVariants as problem
@@ -206,5 +207,6 @@ answer_reply (Ok (answer.Hold hold)) = status_reply (hold_word hold)
 answer_reply (Ok (answer.Versioning enabled)) = status_reply (versioning_word enabled)
 answer_reply (Ok (answer.Configuration config)) = json_reply 200 (compact_text (config_data config))
 answer_reply (Ok (answer.Listing listing statuses)) = json_reply 200 (compact_text (listing_data listing statuses))
+answer_reply (Ok (answer.Copied outcome)) = json_reply 200 (compact_text (copy_data outcome))
 answer_reply (Ok (answer.Refused why)) = refusal_reply why
 answer_reply (Err why) = fault_reply why

@@ -1,5 +1,6 @@
 -- Which request of the desk a framed request is.
 use Rattle.std.specs.Prelude.{ℕ, Bool, true, false, if◌then◌else◌, is_some, List, [], Option, Some, None, Result, Ok, Err, codes, ◌&&◌, not}
+use Rattle.std.specs.Option.{option_and_then}
 use Rattle.std.specs.Str.{bytes_eq}
 use Rattle.s3r_names.specs.declared.version.VersionId.{VersionId}
 use Rattle.s3r_rules.specs.declared.rule.Rule.{Rule}
@@ -11,6 +12,8 @@ use Rattle.s3r_json.specs.Tags.{tags_body}
 use Rattle.s3r_routes.specs.Target.{Target, bucket, object, path_of, place_of}
 use Rattle.s3r_routes.specs.Query as query
 use Rattle.s3r_routes.specs.Query.{Pair}
+use Rattle.s3r_routes.specs.Numbers.{number_named}
+use Rattle.s3r_routes.specs.declared.words.Word.{Word}
 use Rattle.s3r_routes.specs.declared.words.Word.TheVariants as word
 use Rattle.s3r_routes.specs.declared.rows.Route.{Route}
 use Rattle.s3r_routes.specs.declared.rows.Route.TheVariants as route
@@ -61,6 +64,23 @@ list_request words name = do
   limit ← limit_asked words
   after ← place_behind (given word.KeyMarker words) (given word.VersionIdMarker words)
   Ok (request.ListVersions name (or_empty (query.value word.Prefix words)) after limit)
+
+-- ---- the words of a copy
+
+abbrev pub region_from : Option ℕ → Result ℕ Problem
+region_from None = Err InvalidQuery
+region_from (Some region) = Ok region
+
+-- The number at a word, in decimal digits and of 32 bits at most. Whether there is such a region isn't asked here.
+abbrev pub region_asked : Word → List Pair → Result ℕ Problem
+region_asked w words = region_from (option_and_then (number_named 4294967295) (query.value w words))
+
+-- the sender is looked at first
+abbrev pub copy_request : List Pair → Result Request Problem
+copy_request words = do
+  from ← region_asked word.From words
+  to ← region_asked word.To words
+  Ok (request.Copy from to)
 
 -- ---- what is asked of a bucket
 
@@ -155,9 +175,14 @@ object_request raw bytes written = do
   asked ← asked_at raw (object bytes written)
   object_asked raw asked.words name key asked.route
 
--- a row that is there and isn't built
+-- what a row asks of the desk itself; the other rows are there and aren't built
+abbrev pub desk_asked : List Pair → Route → Result Request Problem
+desk_asked words route.Copy = copy_request words
+desk_asked words other = Err UnknownQuery
+
+-- what is asked neither of a bucket nor of an object
 abbrev pub other_request : RawRequest → Target → Result Request Problem
-other_request raw place = asked_at raw place >>= λ asked. Err UnknownQuery
+other_request raw place = asked_at raw place >>= λ asked. desk_asked asked.words asked.route
 
 abbrev pub request_at : RawRequest → Target → Result Request Problem
 request_at raw (bucket name) = bucket_request raw name

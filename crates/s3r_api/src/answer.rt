@@ -10,8 +10,8 @@ use crate::ids::id_bytes;
 use crate::problem::Problem;
 use crate::replication::status_word;
 use crate::replies::{
-    JsonReply, code_text, config_reply, fault_reply, hold_reply, listing_reply, problem_reply,
-    refusal_reply, tags_reply, versioning_reply,
+    JsonReply, code_text, config_reply, copy_reply, fault_reply, hold_reply, listing_reply,
+    problem_reply, refusal_reply, tags_reply, versioning_reply,
 };
 use http::StatusCode;
 use s3r_desk::{Answer, DeskFault, ObjectMetadata};
@@ -298,6 +298,9 @@ pub fn answer_bytes(
         }
         Ok(Answer::Listing { listing, statuses }) => {
             json_bytes(alloc, &listing_reply(alloc, listing, statuses)?, head, last)
+        }
+        Ok(Answer::Copied(outcome)) => {
+            json_bytes(alloc, &copy_reply(alloc, *outcome)?, head, last)
         }
         Ok(Answer::Refused(refusal)) => {
             json_bytes(alloc, &refusal_reply(alloc, *refusal)?, head, last)

@@ -2,11 +2,13 @@
 #![tactic(auto)]
 
 mod answer;
+mod copies;
 mod ids;
 mod lines;
 mod listings;
 mod location;
 mod page;
+mod pair;
 mod problem;
 mod replication;
 mod replies;

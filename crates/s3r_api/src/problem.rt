@@ -20,7 +20,7 @@ pub enum Problem {
     /// A version's id of another form.
     InvalidVersionId,
     InvalidStorageClass,
-    /// A word of the query, or the line of Object Lock, that says what it can't.
+    /// A word of the query that is missing, or a word or the line of Object Lock that says what it can't.
     InvalidQuery,
     /// A legal hold that is neither `ON` nor `OFF`.
     InvalidHold,

@@ -6,13 +6,15 @@ ghost use Rattle.serde_json.specs.View.{view};
 ghost use Rattle.serde_json.specs.Written.{compact_text};
 ghost use Rattle.s3r_json.specs.Tags.{tags_data};
 ghost use Rattle.s3r_rules_json.specs.Printing.{config_data};
+ghost use Rattle.s3r_api.specs.Copying.{copy_data};
 ghost use Rattle.s3r_api.specs.Listings.{listing_data};
 ghost use Rattle.s3r_api.specs.Replies.{json_reply, status_reply, hold_word, versioning_word, code_data, code_text, coded, pair_data, region_name, region_members, rule_members, kind_reply, refusal_reply, fault_reply, problem_reply};
 
+use crate::copies::copy_text;
 use crate::listings::listing_text;
 use crate::problem::Problem;
 use http::StatusCode;
-use s3r_desk::{DeskFault, Listing, Refusal, Statuses};
+use s3r_desk::{CopyOutcome, DeskFault, Listing, Refusal, Statuses};
 use s3r_json::{status_text, tags_text};
 use s3r_names::TagSet;
 use s3r_rules::{Config, Kind};
@@ -241,6 +243,16 @@ pub fn listing_reply(
     Ok(JsonReply {
         status: StatusCode::OK,
         body: listing_text(alloc, listing, statuses)?,
+    })
+}
+
+/// What a turn of the copier came to.
+pub fn copy_reply(alloc: Global, outcome: CopyOutcome) -> Result<JsonReply, AllocError>
+    ensures { IfOk result (λ reply. json_reply reply.status (string_bytes reply.body) ≡ json_reply 200 (compact_text (copy_data outcome))) }
+{
+    Ok(JsonReply {
+        status: StatusCode::OK,
+        body: copy_text(alloc, outcome)?,
     })
 }
 

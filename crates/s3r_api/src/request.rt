@@ -5,11 +5,12 @@ ghost use Rattle.s3r_desk.specs.Steps.{IsRequest};
 ghost use Rattle.s3r_routes.specs.Places.{seen};
 ghost use Rattle.s3r_api.specs.Problems.{Gives, GivesBy, IsOfRequest};
 ghost use Rattle.s3r_api.specs.Asking.{asked_seen};
-ghost use Rattle.s3r_api.specs.Request.{is_head, create_request, versioning_request, if_recorded, replication_request, bucket_asked, written_by, put_request, tags_request, hold_request, version_asked, is_put, object_asked, asked_at, bucket_request, object_request, other_request, request_at, request_of};
+ghost use Rattle.s3r_api.specs.Request.{is_head, create_request, versioning_request, if_recorded, replication_request, bucket_asked, written_by, put_request, tags_request, hold_request, version_asked, is_put, object_asked, asked_at, bucket_request, object_request, desk_asked, other_request, request_at, request_of};
 
 use crate::lines::{class_by, hold_by, locked_by, tags_by};
 use crate::location::region_of;
 use crate::page::list_request;
+use crate::pair::copy_request;
 use crate::problem::Problem;
 use s3r_desk::Request;
 use s3r_http::RawRequest;
@@ -297,12 +298,22 @@ fn object_request(
     object_asked(alloc, raw, &asked.words, bucket, key, asked.route)
 }
 
-/// A row that is there and isn't built.
+/// What a row asks of the desk itself. The other rows are there and aren't built.
+fn desk_asked(words: &Query, route: Route) -> Result<Request, Problem>
+    ensures { result ≡ desk_asked words.now route }
+{
+    match route {
+        Route::Copy => copy_request(words),
+        _ => Err(Problem::UnknownQuery),
+    }
+}
+
+/// What is asked neither of a bucket nor of an object.
 fn other_request(alloc: Global, raw: &RawRequest, place: &Target) -> Result<Request, Problem>
     ensures { Gives result (other_request raw.now (seen place.now)) }
 {
-    asked_at(alloc, raw, place)?;
-    Err(Problem::UnknownQuery)
+    let asked = asked_at(alloc, raw, place)?;
+    desk_asked(&asked.words, asked.route)
 }
 
 fn request_at(alloc: Global, raw: &RawRequest, place: &Target) -> Result<Request, Problem>

@@ -15,7 +15,8 @@ use Rattle.s3r_desk.specs.declared.request.Answer.TheVariants as answer
 use Rattle.s3r_desk.specs.Events.{found, began, Events, history_at}
 use Rattle.s3r_desk.specs.Steps.{Commit, Step, answers, commits_unless, commits_to}
 use Rattle.s3r_desk.specs.Keeping.{Keeps}
-use Rattle.s3r_desk.specs.Responds.{StopsAt, Comes, CommitsOne, Came}
+use Rattle.s3r_desk.specs.Stopping.{StopsAt}
+use Rattle.s3r_desk.specs.Responds.{Comes, CommitsOne, Came}
 use Rattle.s3r_desk.proofs.Stepping.{happens_none}
 
 module _ (before : Events) (s : Step) (room : ℕ → ℕ) (a b : List Store) (old new : Outside) where

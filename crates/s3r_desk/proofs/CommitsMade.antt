@@ -13,27 +13,15 @@ use Rattle.s3r_store.specs.Knows.{Knows, Holds}
 use Rattle.s3r_store.specs.Commits.{IsEither, Commits, IsCause, WhereDenied}
 use Rattle.s3r_store.specs.Stores.{StoreCommits}
 use Rattle.s3r_store.proofs.Committed.{stable_at, stands_for}
-use Rattle.s3r_desk.specs.declared.committing.Committed.{Committed}
-use Rattle.s3r_desk.specs.declared.committing.Committed.TheVariants as committed
-use Rattle.s3r_desk.specs.declared.fault.DeskFault.{DeskFault}
-use Rattle.s3r_desk.specs.declared.fault.DeskFault.TheVariants as faults
 use Rattle.s3r_desk.specs.Events.{found, began, Events, known}
 use Rattle.s3r_desk.specs.Keeping.{IsHeld, Keeps}
 use Rattle.s3r_desk.specs.Responds.{CommitsOne}
+use Rattle.s3r_desk.specs.Committing.{told_as}
 use Rattle.s3r_desk.proofs.Places.{one_of}
 use Rattle.s3r_desk.proofs.Knowing.{known_found, known_began, found_elsewhere, began_elsewhere}
 use Rattle.s3r_desk.proofs.Stepping.{happens_none, happens_began, happens_committed}
 use Rattle.s3r_desk.proofs.Keeps.{knows_as, keeps_set, held_left}
 use Rattle.s3r_desk.proofs.Touched.{holds_held}
-
--- how a store's answer to a commit is told
-abbrev pub result_of : Result ℕ StoreFault → Result Committed DeskFault
-result_of (Ok index) = Ok (committed.At index)
-result_of (Err (store.Refused why)) = Ok (committed.Refused why)
-result_of (Err (store.Full v)) = Err (faults.Full v)
-result_of (Err (store.Volume v)) = Err (faults.Volume v)
-result_of (Err (store.Damaged v offset)) = Err (faults.Damaged v offset)
-result_of (Err store.OutOfMemory) = Err faults.OutOfMemory
 
 pub denied_so : {A : Type 0} (result : Result A StoreFault) (P Q : Type 0) → (P → Q) → WhereDenied result P → WhereDenied result Q
 denied_so (Ok x) P Q f p = tt
@@ -77,7 +65,7 @@ module _ (before : Events) (n r : ℕ) (h : History) (c : Command) (room : ℕ) 
 
     commits_so : (result : Result ℕ StoreFault) (a b : Counts) → StoreCommits n r h c result room s s' old new
         → WhereDenied result (Looks old new × (s'.held ≡ s.held)) → IsCause r result a b
-        → CommitsOne before n r h c room (result_of result) (slice_set stores r s') old new
+        → CommitsOne before n r h c room (told_as result) (slice_set stores r s') old new
     commits_so (Ok index) a b told denied cause =
         let did = told.4 in
         let held = holds_held s'.regions s'.v s'.held (c ∷ h) new told.3 in (
@@ -112,5 +100,5 @@ module _ (before : Events) (n r : ℕ) (h : History) (c : Command) (room : ℕ) 
     -- what the store says of its own number of regions
     pub commits_one : (result : Result ℕ StoreFault) (a b : Counts) → StoreCommits s.regions r h c result room s s' old new
         → WhereDenied result (Looks old new × (s'.held ≡ s.held)) → IsCause r result a b
-        → CommitsOne before n r h c room (result_of result) (slice_set stores r s') old new
+        → CommitsOne before n r h c room (told_as result) (slice_set stores r s') old new
     commits_one result a b told = commits_so result a b (subst (λ (m : ℕ). StoreCommits m r h c result room s s' old new) regions told)

@@ -99,6 +99,9 @@ seen_by_counts s d (Some a) (Some b) e is =
     by_counts s d (length (to_region a.outbox d)) (answered_of (to_region a.outbox d)) (first_of (to_region a.outbox d) - 1)
     (watermark_of (queue.last_from b.inbox s)) e is
 
+pub seen_disagree : (stores : List Store) (s d : ℕ) (e : DeskFault) → seen_fault stores s d ≡ Some e → IsDisagreement e
+seen_disagree stores s d e is = seen_by_counts s d (contents_at stores s) (contents_at stores d) e is
+
 pub seen_disagrees : (stores : List Store) (e : DeskFault) → first_pair (length stores) (seen_fault stores) ≡ Some e → IsDisagreement e
 seen_disagrees stores e is =
     first_has IsDisagreement (λ s. first_below (seen_fault stores s) (length stores)) (length stores) e
@@ -126,7 +129,7 @@ agreeing_is_not_told n at agree =
 
 -- ---- as stores tell it
 
-same_fault : (s d : ℕ) (a b : Contents) (h k : History) → IsAfter a h → IsAfter b k → a.region ≡ s → b.region ≡ d → s < b.regions
+pub same_fault : (s d : ℕ) (a b : Contents) (h k : History) → IsAfter a h → IsAfter b k → a.region ≡ s → b.region ≡ d → s < b.regions
     → seen_by s d (Some a) (Some b) ≡ pair_fault s d h k
 same_fault s d a b h k of_a of_b here there lt =
     let counts = counts-are a h of_a d in

@@ -62,7 +62,8 @@ ties_of events r s w is (Some held) was = (was.0, subst (λ (m : ℕ). Knows s.r
 pub tied : (events : Events) (stores : List Store) (w : Outside) → AreNumbered stores → Keeps events stores w → AreTied stores w
 tied events stores w numbered keeps r s get = ties_of events r s w (numbered.v r s get) s.held (keeps r s get)
 
-known_left : (n v : ℕ) (o : Option LoadedRegion) (a b : Outside) → Leaves v a b → IfSome o (λ held. IsKnown n v held a) → IfSome o (λ held. IsKnown n v held b)
+pub known_left : (n v : ℕ) (o : Option LoadedRegion) (a b : Outside) → Leaves v a b → IfSome o (λ held. IsKnown n v held a)
+    → IfSome o (λ held. IsKnown n v held b)
 known_left n v None a b left was = tt
 known_left n v (Some held) a b left was = (was.0, knows_left n v held was.0 a b left was.1)
 
@@ -73,6 +74,18 @@ tied_set stores r s' a b lt was here left q s get = ⊎_elim
     let is : s' ≡ s = one_of _ s' s (get_set_same stores r s' lt) (subst (λ (m : ℕ). slice_get (slice_set stores r s') m ≡ Some s) e get) in
     subst (λ (x : Store). Ties x b) is here)
     (λ ne. known_left s.regions s.v s.held a b (left s.v) (was q s (sym (get_set_other stores r q s' ne) ∙ get)))
+    (same_or_other q r)
+
+-- the other stores' volumes were left
+pub tied_but : (stores : List Store) (r : ℕ) (s' : Store) (a b : Outside) → r < length stores → AreNumbered stores → AreTied stores a → Ties s' b
+    → ((q : ℕ) → (q ≡ r → ⊥) → Leaves q a b) → AreTied (slice_set stores r s') b
+tied_but stores r s' a b lt numbered was here left q s get = ⊎_elim
+    (λ e.
+    let is : s' ≡ s = one_of _ s' s (get_set_same stores r s' lt) (subst (λ (m : ℕ). slice_get (slice_set stores r s') m ≡ Some s) e get) in
+    subst (λ (x : Store). Ties x b) is here)
+    (λ ne.
+    let at : slice_get stores q ≡ Some s = sym (get_set_other stores r q s' ne) ∙ get in
+    known_left s.regions s.v s.held a b (subst (λ (m : ℕ). Leaves m a b) (sym (numbered.v q s at)) (left q ne)) (was q s at))
     (same_or_other q r)
 
 pub ties_none : (s : Store) (w : Outside) → s.held ≡ None → Ties s w

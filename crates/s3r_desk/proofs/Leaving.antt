@@ -259,6 +259,7 @@ plan-leaves n v s (request.PutHold b key version hold) =
 plan-leaves n v s (request.GetHold b key version) =
     at-location n _ (λ h. if-locked n h _ (with-object n (λ row. Shows (answer.Hold row.hold)) (λ row. refl) version (sought key version h.told)))
     (location n v b)
+plan-leaves n v s (request.Copy from to) = refl
 
 pub all_leave : (n : ℕ) (at : Histories) (q : Request) → may_leave (step n at q).reply ≡ true
 all_leave n at q = made-leaves n at (plan n (views at) (statuses at) q) (plan-leaves n (views at) (statuses at) q)

@@ -17,3 +17,17 @@ pub mod Leaving
 pub mod Careful
 pub mod Agreeing
 pub mod Licensed
+mod CopyDue
+pub mod CopyCareful
+mod CopyStores
+mod CopyCarrying
+mod CopyCounts
+mod CopyTurning
+mod CopyWhole
+mod StepCounts
+pub mod OneStore
+pub mod OneTouch
+pub mod OneCommit
+mod CopyAccepted
+mod CopyDelivery
+mod BetweenTwo

@@ -16,8 +16,8 @@ use Rattle.s3r_desk.specs.Events.{found, began, answered, Events, known, history
 use Rattle.s3r_desk.specs.Steps.{Commit, Histories, after_commit, made, commits_unless, reply_at, plan, views, statuses, made_of}
 use Rattle.s3r_desk.specs.Comparing.{disagreement}
 use Rattle.s3r_desk.specs.Careful.{IsLicensed, MayBegin, AreCareful}
-use Rattle.s3r_desk.specs.Responds.{AreTouched, AreKnown, IsBelow, StopsAt, IsInDoubt, Comes, StepsUnless, IsTurn}
-use Rattle.s3r_desk.specs.Laws.{TurnsAreCareful}
+use Rattle.s3r_desk.specs.Stopping.{StopsAt, IsInDoubt}
+use Rattle.s3r_desk.specs.Responds.{AreTouched, AreKnown, IsBelow, Comes, StepsUnless, IsStepTurn}
 use Rattle.s3r_desk.proofs.Careful.{careful_then}
 use Rattle.s3r_desk.proofs.Leaving.{MayBeAsked, Leaves, plan-leaves}
 
@@ -44,12 +44,12 @@ licensed n events r (command.Receive from number effect) asked = absurd asked
 licensed n events r (command.Settle to number outcome) asked = absurd asked
 licensed n events r (command.Attempt to number) asked = absurd asked
 
-known_there : (o : Option History) → IsSome o → o ≡ Some (unwrap_or o [])
+pub known_there : (o : Option History) → IsSome o → o ≡ Some (unwrap_or o [])
 known_there None some = absurd cc
 known_there (Some h) some = refl
 
 -- each commit may begin behind those before it
-abbrev AreLicensed : ℕ → Events → Histories → List Commit → Type 0
+abbrev pub AreLicensed : ℕ → Events → Histories → List Commit → Type 0
 AreLicensed n now at [] = Unit {0}
 AreLicensed n now at (c ∷ commits) = (c.region < n → MayBegin n now c.region c.command)
     × AreLicensed n (found c.region (c.command ∷ at c.region) ∷ began c.region c.command ∷ now) (after_commit c at) commits
@@ -58,7 +58,7 @@ one_made : (n : ℕ) (now : Events) (at : Histories) (c : Commit) → (c.region 
     → AreCareful n now (found c.region (c.command ∷ at c.region) ∷ began c.region c.command ∷ [])
 one_made n now at c may = (may, tt)
 
-made_careful : (n : ℕ) (now : Events) (at : Histories) (commits : List Commit) → AreLicensed n now at commits → AreCareful n now (made at commits)
+pub made_careful : (n : ℕ) (now : Events) (at : Histories) (commits : List Commit) → AreLicensed n now at commits → AreCareful n now (made at commits)
 made_careful n now at [] all = tt
 made_careful n now at (c ∷ commits) all =
     careful_then n now (found c.region (c.command ∷ at c.region) ∷ began c.region c.command ∷ []) (made (after_commit c at) commits)
@@ -77,7 +77,7 @@ cut_careful n now at (c ∷ first) next others last all how =
     (careful_then n now one (last ++ made (after_commit c at) first) (one_made n now at c all.0)
     (cut_careful n _ (after_commit c at) first next others last all.1 how))
 
-stopped_careful : (n : ℕ) (room : ℕ → ℕ) (now : Events) (at : Histories) (commits : List Commit) (rest : Events) (stops : StopsAt room at commits rest)
+pub stopped_careful : (n : ℕ) (room : ℕ → ℕ) (now : Events) (at : Histories) (commits : List Commit) (rest : Events) (stops : StopsAt room at commits rest)
     → AreLicensed n now at commits → (stops.last ≡ []) ⊎ IsInDoubt stops.next stops.last → AreCareful n now rest
 stopped_careful n room now at commits rest stops all how =
     subst (λ (l : Events). AreCareful n now l) (sym stops.events_are)
@@ -127,15 +127,12 @@ steps_careful n room now request rest result all None comes =
     (step_licensed n now all planned (plan-leaves n (views (history_at now)) (statuses (history_at now)) request)) comes
 steps_careful n room now request rest result all (Some fault) did = subst (λ (l : Events). AreCareful n now l) (sym did.1) tt
 
-pub turn_careful : (P : ℕ → History → Type 0) (n : ℕ) (room : ℕ → ℕ) (before : Events) (request : Request) (result : Result Answer DeskFault)
-    (events : Events) → IsTurn P n room before request result events → AreCareful n before events
-turn_careful P n room before request result events turn =
+pub step_careful : (P : ℕ → History → Type 0) (n : ℕ) (room : ℕ → ℕ) (before : Events) (request : Request) (result : Result Answer DeskFault)
+    (events : Events) → IsStepTurn P n room before request result events → AreCareful n before events
+step_careful P n room before request result events turn =
     let now : Events = turn.touched ++ before in
     subst (λ (l : Events). AreCareful n before l) (sym turn.parts)
     (careful_then n before turn.touched turn.rest (touched_careful P (IsBelow n) n before turn.touched turn.touches) (⊎_elim
     (λ w. steps_careful n room now request turn.rest result w.0 (disagreement n (history_at now)) w.1)
     (λ none. subst (λ (l : Events). AreCareful n now l) (sym none.0) tt)
     turn.steps))
-
-pub turns_careful : TurnsAreCareful
-turns_careful n room seen before request result events turn = turn_careful _ n room before request result events turn

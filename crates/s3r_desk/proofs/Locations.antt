@@ -191,6 +191,7 @@ plan_same n v u s t (request.PutTags b key version tags gone) same alike = rw (h
 plan_same n v u s t (request.GetTags b key version) same alike = rw (home_same n v u b (same b)) refl
 plan_same n v u s t (request.PutHold b key version hold) same alike = rw (home_same n v u b (same b)) refl
 plan_same n v u s t (request.GetHold b key version) same alike = rw (home_same n v u b (same b)) refl
+plan_same n v u s t (request.Copy from to) same alike = refl
 
 -- ---- each region is known
 

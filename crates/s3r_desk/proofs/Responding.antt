@@ -1,7 +1,8 @@
--- A request's turn: all regions are touched, and then its step is made.
+-- A request's turn: all regions are touched, and then its step is made; or the copier makes its turn.
 use Rattle.std.proofs.Common.{◌≡◌, ℕ, List, [], ◌++◌, length, Option, Some, None, Result, Ok, Err, refl, sym, subst, inl, inr, append_assoc}
 use Rattle.s3r_world.specs.Image.{Image}
-use Rattle.s3r_world.specs.Outside.{Outside}
+use Rattle.s3r_world.specs.Outside.{Outside, Counts, NoneFalls}
+use Rattle.s3r_history.specs.Words.{History}
 use Rattle.s3r_store.specs.declared.store.Store.{Store}
 use Rattle.s3r_desk.specs.declared.fault.DeskFault.{DeskFault}
 use Rattle.s3r_desk.specs.declared.fault.DeskFault.TheVariants as faults
@@ -12,7 +13,9 @@ use Rattle.s3r_desk.specs.Steps.{Commit, Histories, step}
 use Rattle.s3r_desk.specs.Keeping.{Keeps, AreRead}
 use Rattle.s3r_desk.specs.Comparing.{disagreement}
 use Rattle.s3r_desk.specs.Progress.{Happens}
-use Rattle.s3r_desk.specs.Responds.{IsBelow, AreKnown, Comes, StepsUnless, FailsToTouch, IsDamage, Touches, Answers, Responds}
+use Rattle.s3r_desk.specs.Responds.{IsBelow, AreKnown, Comes, StepsUnless, FailsToTouch, IsStepTurn, pair_of, TurnsBy, IsTurn, AsRead, IsDamage, Touches, Answers, Responds, HasCause}
+use Rattle.s3r_desk.specs.Happened.{Happened, CopiesBetween}
+use Rattle.s3r_desk.proofs.StepCounts.{step_counted}
 use Rattle.s3r_desk.proofs.Stepping.{happens_then}
 use Rattle.s3r_desk.proofs.Locations.{all_known}
 use Rattle.s3r_desk.proofs.Disagreeing.{IsDisagreement, some_disagrees}
@@ -58,48 +61,74 @@ damage_as n A B w (faults.Damaged v offset) d = d
 damage_as n A B w (faults.Disagree from to sent last settled received) d = tt
 damage_as n A B w faults.OutOfMemory d = tt
 
-module _ (before : Events) (request : Request) (room : ℕ → ℕ) (a b : List Store) (old mid : Outside) where
+-- a step over all regions is the turn of a request that asks for no turn of the copier
+as_turn : (P : ℕ → History → Type 0) (n : ℕ) (room : ℕ → ℕ) (before : Events) (request : Request) (result : Result Answer DeskFault) (events : Events)
+    → pair_of request ≡ None → IsStepTurn P n room before request result events → IsTurn P n room before request result events
+as_turn P n room before request result events none turn =
+    subst (λ (o : Option (ℕ × ℕ)). TurnsBy o P n room before request result events) (sym none) turn
+
+module _ (before : Events) (request : Request) (room : ℕ → ℕ) (a b : List Store) (old mid : Outside) (f g : Counts) (m : ℕ) (falls : NoneFalls f g)
+    (step : pair_of request ≡ None) where
+  responds_by : (result : Result Answer DeskFault) (e : List Store) (new : Outside) (events : Events)
+      → IsStepTurn (AsRead (length a) old) (length a) room before request result events → Keeps (events ++ before) e new → Happens (length a) events old new
+      → IsDamage (length a) old.as_read result → HasCause m result f g → Responds before request result room a e old new f g
+  responds_by result e new events turn keeps happens damage cause = record {
+    events = events;
+    turn = as_turn (AsRead (length a) old) (length a) room before request result events step turn;
+    keeps = keeps;
+    happens = happens;
+    damage = damage;
+    counted = step_counted (AsRead (length a) old) (length a) m room before request result events f g turn falls cause;
+  }
+
   -- a touch failed
   pub responds_failed : (e : DeskFault) → Touches before (Err e) a b old mid → IsDamage {A = Answer} (length a) old.as_read (Err e)
-      → Responds before request (Err e) room a b old mid
-  responds_failed e touches damage = record {
-    events = touches.touched;
-    turn = record {
-      touched = touches.touched;
-      rest = [];
-      parts = refl;
-      touches = touches.touches;
-      steps = inr (refl, fails_as (Unit {0}) Answer (IsBelow (length a)) (touches.touched ++ before) e touches.fails);
-    };
-    keeps = touches.keeps;
-    happens = touches.happens;
-    damage = damage;
-  }
+      → HasCause {A = Answer} m (Err e) f g → Responds before request (Err e) room a b old mid f g
+  responds_failed e touches damage cause = responds_by (Err e) b mid touches.touched (record {
+    touched = touches.touched;
+    rest = [];
+    parts = refl;
+    touches = touches.touches;
+    steps = inr (refl, fails_as (Unit {0}) Answer (IsBelow (length a)) (touches.touched ++ before) e touches.fails);
+  }) touches.keeps touches.happens damage cause
 
   -- the step was made
   module _ (touches : Touches before (Ok tt) a b old mid) where
     pub responds_stepped : (d : List Store) (new : Outside) (room' : ℕ → ℕ) (result : Result Answer DeskFault) → length b ≡ length a → room' ≡ room
-        → AreRead b → Answers (touches.touched ++ before) request result room' b d mid new → Responds before request result room a d old new
-    responds_stepped d new room' result same rooms read did = record {
-      events = did.rest ++ touches.touched;
-      turn = record {
-        touched = touches.touched;
-        rest = did.rest;
-        parts = refl;
-        touches = touches.touches;
-        steps = inl (
-          known,
-          subst (λ (n : ℕ). StepsUnless (disagreement n at) n room at request did.rest result) same
-              (subst (λ (x : ℕ → ℕ). StepsUnless (disagreement (length b) at) (length b) x at request did.rest result) rooms did.steps),
-        );
-      };
-      keeps = subst (λ (l : Events). Keeps l d new) (sym (append_assoc did.rest touches.touched before)) did.keeps;
-      happens = happens_then (length a) touches.touched did.rest old mid new touches.happens (subst (λ (n : ℕ). Happens n did.rest mid new) same did.happens);
-      damage = steps_undamaged (length a) (length b) old.as_read room' at request did.rest result (disagreement (length b) at) refl did.steps;
-    }
+        → AreRead b → Answers (touches.touched ++ before) request result room' b d mid new → HasCause m result f g
+        → Responds before request result room a d old new f g
+    responds_stepped d new room' result same rooms read did cause = responds_by result d new (did.rest ++ touches.touched) (record {
+      touched = touches.touched;
+      rest = did.rest;
+      parts = refl;
+      touches = touches.touches;
+      steps = inl (
+        known,
+        subst (λ (n : ℕ). StepsUnless (disagreement n at) n room at request did.rest result) same
+            (subst (λ (x : ℕ → ℕ). StepsUnless (disagreement (length b) at) (length b) x at request did.rest result) rooms did.steps),
+      );
+    })
+        (subst (λ (l : Events). Keeps l d new) (sym (append_assoc did.rest touches.touched before)) did.keeps)
+        (happens_then (length a) touches.touched did.rest old mid new touches.happens (subst (λ (n : ℕ). Happens n did.rest mid new) same did.happens))
+        (steps_undamaged (length a) (length b) old.as_read room' at request did.rest result (disagreement (length b) at) refl did.steps) cause
       where
         at : Histories
         at = history_at (touches.touched ++ before)
 
         known : AreKnown (IsBelow (length a)) (touches.touched ++ before)
         known = subst (λ (n : ℕ). AreKnown (IsBelow n) (touches.touched ++ before)) same (all_known (touches.touched ++ before) b mid touches.keeps read)
+
+-- ---- the copier's turn
+
+pub responds_copied : (before : Events) (request : Request) (room : ℕ → ℕ) (s d : ℕ) (result : Result Answer DeskFault) (a b : List Store) (old new : Outside)
+    (f g : Counts) → pair_of request ≡ Some (s, d)
+    → Happened (CopiesBetween (AsRead (length a) old) (length a) room s d before result f g) before a b old new → IsDamage (length a) old.as_read result
+    → Responds before request result room a b old new f g
+responds_copied before request room s d result a b old new f g pair did damage = record {
+  events = did.events;
+  turn = subst (λ (o : Option (ℕ × ℕ)). TurnsBy o (AsRead (length a) old) (length a) room before request result did.events) (sym pair) did.such.turn;
+  keeps = did.keeps;
+  happens = did.happens;
+  damage = damage;
+  counted = did.such.counted;
+}

@@ -77,11 +77,11 @@ pub holds_held : (n v : ℕ) (o : Option LoadedRegion) (h : History) (w : Outsid
 holds_held n v None h w holds = absurd holds
 holds_held n v (Some held) h w holds = (held, refl, holds)
 
-some_is : (o : Option LoadedRegion) (held : LoadedRegion) → o ≡ Some held → IsSome o
+pub some_is : (o : Option LoadedRegion) (held : LoadedRegion) → o ≡ Some held → IsSome o
 some_is o held e = subst (λ (x : Option LoadedRegion). IsSome x) (sym e) refl
 
 -- a store that was read has a history that is known
-known_some : (n : ℕ) (events : Events) (r : ℕ) (o : Option LoadedRegion) (w : Outside) → IsHeld n events r o w → IsSome o → IsSome (known events r)
+pub known_some : (n : ℕ) (events : Events) (r : ℕ) (o : Option LoadedRegion) (w : Outside) → IsHeld n events r o w → IsSome o → IsSome (known events r)
 known_some n events r None w was some = absurd cc
 known_some n events r (Some held) w was some = subst (λ (x : Option History). IsSome x) (sym was.1) refl
 

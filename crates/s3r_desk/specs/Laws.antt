@@ -47,6 +47,7 @@ may_leave (answer.Hold hold) = true
 may_leave (answer.Versioning enabled) = true
 may_leave (answer.Configuration config) = true
 may_leave (answer.Listing listing statuses) = true
+may_leave (answer.Copied outcome) = true
 
 -- No request is refused since a region isn't there, or by the number of a task: a configuration's regions are those of
 -- buckets that are, and no request asks for a task.

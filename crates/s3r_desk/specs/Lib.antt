@@ -5,5 +5,9 @@ pub mod Careful
 pub mod Comparing
 pub mod Keeping
 pub mod Lookups
+pub mod Stopping
+pub mod Copying
 pub mod Responds
+pub mod Happened
+pub mod Committing
 pub mod Laws

@@ -1,5 +1,5 @@
 -- What the desk does at a request.
-use Rattle.std.specs.Prelude.{◌≡◌, ◌⊎◌, ℕ, ◌+◌, ◌<◌, ◌≤◌, List, [], ◌∷◌, ◌++◌, length, Option, Some, None, Result, Ok, Err, OnErr, IsSome}
+use Rattle.std.specs.Prelude.{◌≡◌, ◌⊎◌, ℕ, ◌+◌, ◌<◌, ◌≤◌, nat_lt, Bool, true, false, ◌&&◌, List, [], ◌∷◌, ◌++◌, length, Option, Some, None, Result, Ok, Err, OnErr, IsSome}
 use Rattle.s3r_world.specs.Image.{Image}
 use Rattle.s3r_world.specs.declared.world.Side.TheVariants as side
 use Rattle.s3r_world.specs.Outside.{Outside, Looks, Counts, Rises}
@@ -13,13 +13,19 @@ use Rattle.s3r_store.specs.Commits.{length_with}
 use Rattle.s3r_store.specs.declared.store.Store.{Store}
 use Rattle.s3r_desk.specs.declared.fault.DeskFault.{DeskFault}
 use Rattle.s3r_desk.specs.declared.fault.DeskFault.TheVariants as faults
+use Rattle.s3r_history.specs.declared.refusal.Refusal.TheVariants as refusals
+use Rattle.s3r_desk.specs.declared.copy_outcome.CopyOutcome.{CopyOutcome}
 use Rattle.s3r_desk.specs.declared.request.Request.{Request}
+use Rattle.s3r_desk.specs.declared.request.Request.TheVariants as request
 use Rattle.s3r_desk.specs.declared.request.Answer.{Answer}
+use Rattle.s3r_desk.specs.declared.request.Answer.TheVariants as answer
 use Rattle.s3r_desk.specs.Events.{found, began, answered, Events, known, history_at}
 use Rattle.s3r_desk.specs.declared.planning.Plan.TheVariants.{Commits}
 use Rattle.s3r_desk.specs.declared.planning.Reply.{Reply}
-use Rattle.s3r_desk.specs.Steps.{Histories, Commit, Step, step, made_of, after_commits, made, FitRooms}
+use Rattle.s3r_desk.specs.Steps.{Histories, Commit, Step, step, made_of, made, FitRooms}
 use Rattle.s3r_desk.specs.Comparing.{disagreement}
+use Rattle.s3r_desk.specs.Stopping.{IsBegun, PassesRoom, IsStarved}
+use Rattle.s3r_desk.specs.Copying.{IsCopyTurn, AreCounted}
 use Rattle.s3r_desk.specs.Keeping.{Keeps}
 use Rattle.s3r_desk.specs.Progress.{Happens}
 
@@ -43,39 +49,6 @@ AreTouched P among before (answered text ∷ events) = ⊥
 -- the history of each of them is known
 abbrev pub AreKnown : (ℕ → Type 0) → Events → Type 0
 AreKnown among events = (r : ℕ) → among r → IsSome (known events r)
-
--- A first part of the commits was made sure, and the next one wasn't.
-pub record StopsAt (room : ℕ → ℕ) (at : Histories) (commits : List Commit) (events : Events) : Type 0 where
-  pub first : List Commit
-  pub next : Commit
-  pub others : List Commit
-  pub parts : commits ≡ first ++ next ∷ others
-  pub fit : FitRooms room at first
-  -- what happened to the next
-  pub last : Events
-  pub events_are : events ≡ last ++ made at first
-
--- the next commit began, and is in doubt
-abbrev pub IsInDoubt : Commit → Events → Type 0
-IsInDoubt commit events = events ≡ began commit.region commit.command ∷ []
-
--- the next commit is one to this volume, which has room for it, and is in doubt
-pub record IsBegun (room : ℕ → ℕ) (v : ℕ) (at : Histories) (commits : List Commit) (events : Events) : Type 0 where
-  pub stops : StopsAt room at commits events
-  pub region : stops.next.region ≡ v
-  pub fits : length_with v (after_commits stops.first at v) stops.next.command ≤ room v
-  pub doubt : IsInDoubt stops.next stops.last
-
--- the next commit would pass the room of this volume, and wasn't begun
-pub record PassesRoom (room : ℕ → ℕ) (v : ℕ) (at : Histories) (commits : List Commit) (events : Events) : Type 0 where
-  pub stops : StopsAt room at commits events
-  pub region : stops.next.region ≡ v
-  pub full : room v < length_with v (after_commits stops.first at v) stops.next.command
-  pub none : stops.last ≡ []
-
--- there was no memory: nothing was done, or the next commit wasn't begun, or is in doubt
-abbrev pub IsStarved : (ℕ → ℕ) → Histories → List Commit → Events → Type 0
-IsStarved room at commits events = (events ≡ []) ⊎ ((stops : StopsAt room at commits events) × ((stops.last ≡ []) ⊎ IsInDoubt stops.next stops.last))
 
 -- What a request comes to where all histories are known: its step, whole; or a first part of its commits, and the next
 -- in doubt or past its volume's room.
@@ -106,7 +79,7 @@ FailsToTouch among events (Err (faults.Disagree from to sent last settled receiv
 FailsToTouch among events (Err faults.OutOfMemory) = (v : ℕ) × IsNext among events v
 
 -- All regions are touched in order, and then all pairs are compared and the request's step is made; or a touch fails.
-pub record IsTurn (P : ℕ → History → Type 0) (n : ℕ) (room : ℕ → ℕ) (before : Events) (request : Request) (result : Result Answer DeskFault)
+pub record IsStepTurn (P : ℕ → History → Type 0) (n : ℕ) (room : ℕ → ℕ) (before : Events) (request : Request) (result : Result Answer DeskFault)
     (events : Events) : Type 0 where
   pub touched : Events
   pub rest : Events
@@ -114,6 +87,46 @@ pub record IsTurn (P : ℕ → History → Type 0) (n : ℕ) (room : ℕ → ℕ
   pub touches : AreTouched P (IsBelow n) before touched
   pub steps : (AreKnown (IsBelow n) (touched ++ before) × Steps n room (touched ++ before) request rest result)
       ⊎ ((rest ≡ []) × FailsToTouch (IsBelow n) (touched ++ before) result)
+
+-- the two regions between which a request asks for a turn of the copier, where it does
+abbrev pub pair_of : Request → Option (ℕ × ℕ)
+pair_of (request.CreateBucket name region locked) = None
+pair_of (request.HeadBucket name) = None
+pair_of (request.DeleteBucket name) = None
+pair_of (request.PutVersioning name enabled) = None
+pair_of (request.GetVersioning name) = None
+pair_of (request.PutReplication name config) = None
+pair_of (request.GetReplication name) = None
+pair_of (request.DeleteReplication name) = None
+pair_of (request.ListVersions name prefix after limit) = None
+pair_of (request.PutObject b key body tags hold class) = None
+pair_of (request.GetObject b key version head) = None
+pair_of (request.DeleteObject b key version) = None
+pair_of (request.PutTags b key version tags gone) = None
+pair_of (request.GetTags b key version) = None
+pair_of (request.PutHold b key version hold) = None
+pair_of (request.GetHold b key version) = None
+pair_of (request.Copy from to) = Some (from, to)
+
+-- what a turn came to, as its answer
+abbrev pub copied : Result CopyOutcome DeskFault → Result Answer DeskFault
+copied (Ok outcome) = Ok (answer.Copied outcome)
+copied (Err fault) = Err fault
+
+-- The copier makes its turn where both regions are there. Else nothing is touched.
+abbrev pub IsCopied : (ℕ → History → Type 0) → (ℕ → ℕ) → (s d : ℕ) → Events → Result Answer DeskFault → Events → Bool → Type 0
+IsCopied P room s d before result events true =
+    (outcome : Result CopyOutcome DeskFault) × (result ≡ copied outcome) × IsCopyTurn P room s d before outcome events
+IsCopied P room s d before result events false = (result ≡ Ok (answer.Refused refusals.InvalidArgument)) × (events ≡ [])
+
+abbrev pub TurnsBy : Option (ℕ × ℕ) → (ℕ → History → Type 0) → ℕ → (ℕ → ℕ) → Events → Request → Result Answer DeskFault → Events → Type 0
+TurnsBy None P n room before request result events = IsStepTurn P n room before request result events
+TurnsBy (Some pair) P n room before request result events =
+    IsCopied P room pair.0 pair.1 before result events (nat_lt pair.0 n && nat_lt pair.1 n)
+
+-- a request is a turn of the copier between its two regions, or a step over all of them
+abbrev pub IsTurn : (ℕ → History → Type 0) → ℕ → (ℕ → ℕ) → Events → Request → Result Answer DeskFault → Events → Type 0
+IsTurn P n room before request result events = TurnsBy (pair_of request) P n room before request result events
 
 -- what a volume's bytes stand for
 abbrev pub AsRead : ℕ → Outside → ℕ → History → Type 0
@@ -180,13 +193,14 @@ abbrev pub Makes : Events → ℕ → Command → Reply → Result Answer DeskFa
 Makes before r c reply result room a b old new = Came before (made_of (length a) (history_at before) (Commits r c reply)) result room a b old new
 
 -- The desk did this at a request.
-pub record Responds (before : Events) (request : Request) (result : Result Answer DeskFault) (room : ℕ
-    → ℕ) (a b : List Store) (old new : Outside) : Type 0 where
+pub record Responds (before : Events) (request : Request) (result : Result Answer DeskFault) (room : ℕ → ℕ) (a b : List Store) (old new : Outside)
+    (counts later : Counts) : Type 0 where
   pub events : Events
   pub turn : IsTurn (AsRead (length a) old) (length a) room before request result events
   pub keeps : Keeps (events ++ before) b new
   pub happens : Happens (length a) events old new
   pub damage : IsDamage (length a) old.as_read result
+  pub counted : AreCounted result events counts later
 
 -- a fault was counted, and is told of its volume
 abbrev pub HasCause : {A : Type 0} → ℕ → Result A DeskFault → Counts → Counts → Type 0

@@ -244,6 +244,8 @@ plan n views statuses (request.PutHold b key version hold) =
     (object_at key version h))) (location n views b)
 plan n views statuses (request.GetHold b key version) =
     at_location (λ h. if_locked h (with_object (λ row. Shows (answer.Hold row.hold)) (object_at key version h))) (location n views b)
+-- a turn of the copier is no step over all regions
+plan n views statuses (request.Copy from to) = refuses refusals.InvalidArgument
 
 -- ---- the step
 
@@ -313,6 +315,7 @@ IsRequest (request.PutTags b key version tags gone) = IsCommand (command.Marker 
 IsRequest (request.GetTags b key version) = Unit {0}
 IsRequest (request.PutHold b key version hold) = IsCommand (command.Marker b key)
 IsRequest (request.GetHold b key version) = Unit {0}
+IsRequest (request.Copy from to) = Unit {0}
 
 -- the histories with one command more
 abbrev pub after_commit : Commit → Histories → Histories

@@ -13,7 +13,7 @@ fn is_within(sent: u64, answered: u64, settled: u64, received: u64) -> bool
 }
 
 // Two regions that were read disagree on the tasks from one to the other.
-fn pair_fault(stores: &[Store], from: u32, to: u32) -> Option<DeskFault>
+pub(crate) fn pair_fault(stores: &[Store], from: u32, to: u32) -> Option<DeskFault>
     ensures { result ≡ seen_fault stores.now from to }
 {
     let sender = stores.get(from as usize)?.state()?;

@@ -2,8 +2,7 @@
 ghost use Rattle.std.specs.Prelude.{◌≡◌, ◌≤◌, ℕ, IfOk, length};
 ghost use Rattle.s3r_desk.specs.Keeping.{AreNumbered};
 
-use crate::answering::answer;
-use crate::touching::touch_all;
+use crate::turning::{copy_between, pair_of, step_over_all};
 use crate::{Answer, DeskFault, Request};
 use s3r_store::Store;
 use s3r_world::World;
@@ -37,7 +36,8 @@ impl Desk {
         Ok(Desk { stores })
     }
 
-    /// Touches all regions in order, and then makes the request's step: its commits in order, and its answer.
+    /// Makes the request's turn: a turn of the copier touches its two regions alone; every other request touches all regions
+    /// in order, compares all pairs, and makes its step: its commits in order, and its answer.
     ///
     /// `Damaged` is told by a touch, and no step is made then. `Full` tells a step that was not made. After `Volume` no
     /// step was made, or the commit to that volume is in doubt; so it may be after `OutOfMemory`. A region in doubt is
@@ -54,7 +54,8 @@ impl Desk {
         requires tied { IsTrue W.tells → AreTied self.old.stores.items (W.outside world.old) }
         requires fits { IsRequest request }
         ensures told { IsTrue W.tells → (before : Events) → Keeps before self.old.stores.items (W.outside world.old)
-            → Responds before request result (W.shape world.old).room self.old.stores.items self.new.stores.items (W.outside world.old) (W.outside world.new) }
+            → Responds before request result (W.shape world.old).room self.old.stores.items self.new.stores.items (W.outside world.old) (W.outside world.new)
+            (W.faults world.old) (W.faults world.new) }
         ensures count { length self.new.stores.items ≡ length self.old.stores.items }
         ensures numbered { AreNumbered self.new.stores.items }
         ensures cause { HasCause (length self.old.stores.items) result (W.faults world.old) (W.faults world.new) }
@@ -62,12 +63,12 @@ impl Desk {
         ensures goes { W.goes world.old world.new }
         ensures shape { KeepsShape (W.shape world.old) (W.shape world.new) }
     {
-        match touch_all(alloc, world, &mut self.stores) {
-            Ok(()) => answer(alloc, world, &mut self.stores, request),
-            Err(fault) => {
+        match pair_of(&request) {
+            Some((from, to)) => {
                 drop(request);
-                Err(fault)
+                copy_between(alloc, world, &mut self.stores, from, to)
             }
+            None => step_over_all(alloc, world, &mut self.stores, request),
         }
     }
 }

@@ -173,5 +173,7 @@ pub fn plan_of(alloc: Global, stores: &[Store], request: Request) -> Result<Plan
             key,
             version,
         } => Ok(get_hold(location_of(stores, &bucket), key, version)),
+        // A turn of the copier is no step over all regions.
+        Request::Copy { .. } => Ok(refuses(Refusal::InvalidArgument)),
     }
 }

@@ -1,6 +1,7 @@
 //! What is asked of the desk, and what it answers.
 ghost use Rattle.std.specs.Prelude.{◌≡◌};
 
+use crate::CopyOutcome;
 use s3r_history::Refusal;
 use s3r_names::{BucketName, Bytes, ClassName, Key, Status, TagSet, Text, VersionId};
 use s3r_rules::Config;
@@ -100,6 +101,11 @@ pub enum Request {
         key: Key,
         version: Option<VersionId>,
     },
+    /// A turn of the copier: the first pending task from one region to another is carried.
+    Copy {
+        from: u32,
+        to: u32,
+    },
 }
 
 /// What is told of a version beside its body.
@@ -181,4 +187,6 @@ pub enum Answer {
         listing: Listing,
         statuses: Statuses,
     },
+    /// What a turn of the copier came to.
+    Copied(CopyOutcome),
 }

@@ -5,7 +5,8 @@ ghost use Rattle.s3r_history.specs.Words.{History};
 ghost use Rattle.s3r_store.specs.Knows.{Ties, Holds};
 ghost use Rattle.s3r_desk.specs.Events.{Events};
 ghost use Rattle.s3r_desk.specs.Keeping.{Keeps, AreNumbered, AreTied, AreRead};
-ghost use Rattle.s3r_desk.specs.Responds.{Touches, FailsAt, IsDamage, HasCause};
+ghost use Rattle.s3r_desk.specs.Responds.{Touches, AsRead, FailsAt, IsDamage, HasCause};
+ghost use Rattle.s3r_desk.specs.Happened.{Happened, IsTouch, IsReadAt, StoreHas, AreLeftBut};
 
 use crate::DeskFault;
 use s3r_store::{Store, StoreFault};
@@ -40,6 +41,41 @@ fn touch_one<W: World>(alloc: Global, world: &mut W, store: &mut Store) -> Resul
         Err(StoreFault::Refused(_)) => unreachable!(),
         Err(StoreFault::Full(_)) => unreachable!(),
     }
+}
+
+/// Reads a region, where that isn't done yet. Its volume stays as it is.
+///
+/// `Volume` tells a call that failed, `Damaged` that the volume stands for no lawful history, and `OutOfMemory` want of
+/// memory. After each the region is unread.
+pub fn touch_region<W: World>(
+    alloc: Global,
+    world: &mut W,
+    stores: &mut Vec<Store>,
+    region: usize,
+) -> Result<(), DeskFault>
+    requires region { region < length stores.old.items }
+    requires volumes { length stores.old.items ≤ (W.shape world.old).volumes }
+    requires few { length stores.old.items ≤ 8 }
+    requires numbered { AreNumbered stores.old.items }
+    requires tied { IsTrue W.tells → AreTied stores.old.items (W.outside world.old) }
+    ensures told { IsTrue W.tells → (before : Events) → Keeps before stores.old.items (W.outside world.old)
+        → Happened (IsTouch (AsRead (length stores.old.items) (W.outside world.old)) before region result) before stores.old.items
+        stores.new.items (W.outside world.old) (W.outside world.new) }
+    ensures looks { IsTrue W.tells → (W.outside world.new).as_read ≡ (W.outside world.old).as_read }
+    ensures tied { IsTrue W.tells → AreTied stores.new.items (W.outside world.new) }
+    ensures read { OnOk result (IsReadAt stores.new.items region) }
+    ensures unread { OnErr result (StoreHas (λ store. store.held ≡ None) stores.new.items region) }
+    ensures others { AreLeftBut region stores.old.items stores.new.items }
+    ensures count { length stores.new.items ≡ length stores.old.items }
+    ensures numbered { AreNumbered stores.new.items }
+    ensures fails { OnErr result (FailsAt region result) }
+    ensures damage { IsTrue W.tells → IsDamage (length stores.old.items) (W.outside world.old).as_read result }
+    ensures cause { HasCause (length stores.old.items) result (W.faults world.old) (W.faults world.new) }
+    ensures counts { NoneFalls (W.faults world.old) (W.faults world.new) }
+    ensures goes { W.goes world.old world.new }
+    ensures shape { KeepsShape (W.shape world.old) (W.shape world.new) }
+{
+    touch_one(alloc, world, &mut stores[region])
 }
 
 /// Reads each region in order that isn't read yet, up to the first fault. Volumes stay as they are.

@@ -3,6 +3,7 @@
 #![tactic(auto)]
 
 mod answers;
+mod copies;
 mod escape;
 mod framing;
 mod listings;
@@ -26,6 +27,7 @@ fn text_of(alloc: Global, row: &str) -> Result<String, RowFault> {
         "written" => answers::written(alloc, cells),
         "object" => answers::object(alloc, cells),
         "listing" => listings::listing(alloc, cells),
+        "copied" => copies::copied(alloc, cells),
         "refusal" => answers::refusal(alloc, cells),
         "fault" => answers::fault(alloc, cells),
         _ => Err(RowFault::NoRow),

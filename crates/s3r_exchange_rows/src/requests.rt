@@ -95,6 +95,7 @@ pub fn request_text(alloc: Global, request: &Request) -> Result<String, AllocErr
             format!(in alloc; "hold {} {hold}", index_of(version))
         }
         Request::GetHold { version, .. } => format!(in alloc; "hold of {}", index_of(version)),
+        Request::Copy { from, to } => format!(in alloc; "copy {from} {to}"),
         other => bucket_text(alloc, other),
     }
 }

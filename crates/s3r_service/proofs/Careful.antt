@@ -7,7 +7,7 @@ use Rattle.s3r_desk.specs.Events.{Events}
 use Rattle.s3r_desk.specs.Careful.{AreCareful}
 use Rattle.s3r_desk.specs.declared.request.Request.{Request}
 use Rattle.s3r_desk.proofs.Careful.{careful_then}
-use Rattle.s3r_desk.proofs.Licensed.{turn_careful}
+use Rattle.s3r_desk.proofs.CopyCareful.{turn_careful}
 use Rattle.s3r_api.specs.declared.problem.Problem.{Problem}
 use Rattle.s3r_api.specs.Request.{request_of}
 use Rattle.s3r_service.specs.declared.stop.Ending.{Ending}

@@ -1,20 +1,19 @@
 -- A run, request by request.
-use Rattle.std.proofs.Common.{◌≡◌, ◌⊎◌, ℕ, ◌+◌, ◌<◌, Bool, true, false, cond, eqb, List, [], ◌∷◌, ◌++◌, length, Option, Some, None, IfSome, Result, Ok, Err, refl, inl, sym, ◌∙◌, ap, subst, ⊎_elim, append_assoc, arith}
-use Rattle.std.proofs.lemmas.Bool.{eqb-true}
+use Rattle.std.proofs.Common.{◌≡◌, ◌⊎◌, ℕ, ◌+◌, ◌<◌, List, [], ◌∷◌, ◌++◌, length, Option, Some, None, IfSome, Result, Ok, Err, refl, inl, sym, ◌∙◌, ap, subst, ⊎_elim, append_assoc, arith}
 use Rattle.s3r_world.specs.declared.world.Side.TheVariants as side
 use Rattle.s3r_world.specs.Outside.{Outside, Counts, NoneFalls, Rises, KeepsVolumes}
 use Rattle.s3r_world.specs.Image.{Image}
 use Rattle.s3r_world.specs.Moments.{falls_then, rises_none, rises_before, rises_then}
 use Rattle.s3r_store.specs.declared.store.Store.{Store}
-use Rattle.s3r_desk.specs.declared.fault.DeskFault.TheVariants as faults
 use Rattle.s3r_desk.specs.Events.{answered, Events}
+use Rattle.s3r_desk.specs.Copying.{attempts_about}
 use Rattle.s3r_desk.specs.Keeping.{Keeps, IsFresh, IsHeld}
 use Rattle.s3r_store.specs.declared.loaded_region.LoadedRegion.{LoadedRegion}
 use Rattle.s3r_service.specs.declared.stop.Ending.{Ending}
 use Rattle.s3r_service.specs.declared.stop.Stop.{Stop}
 use Rattle.s3r_service.specs.declared.stop.Stop.TheVariants as stop
 use Rattle.s3r_service.specs.Passing.{Passes}
-use Rattle.s3r_service.specs.Turns.{Outcome, Turn, IsCounted, IsAnswered, IsRight, events_of, input_of, AreTurns, AreCounted, fails_at, failures, events_in, text_in, turns_with, Occasion, request_came, text_of, AreItsFaults, fails_in}
+use Rattle.s3r_service.specs.Turns.{Turn, IsAnswered, IsRight, events_of, input_of, AreTurns, AreCounted, failures, events_in, text_in, turns_with, Occasion, request_came, text_of, AreItsFaults, fails_in}
 use Rattle.s3r_http.specs.declared.message.HttpFault.{HttpFault}
 use Rattle.s3r_http.specs.declared.message.HttpFault.TheVariants as http
 use Rattle.s3r_service.specs.Served.{IsEnd, Served, stop_of}
@@ -48,22 +47,9 @@ counted_with : (a b d : Counts) (turns : List Turn) (turn : Option Turn) → Are
 counted_with a b d turns None was falls = counted_later a b d turns was falls
 counted_with a b d turns (Some t) was here = (counted_later a b t.before turns was here.0, here.1)
 
-fails_volume : (u v : ℕ) (a b : Counts) → NoneFalls a b → Rises 1 (side.Volume u) a b → (t : Bool) → eqb u v ≡ t
-    → Rises (cond t 1 0) (side.Volume v) a b
-fails_volume u v a b falls rises true e = subst (λ (m : ℕ). Rises 1 (side.Volume m) a b) (eqb-true u v e) rises
-fails_volume u v a b falls rises false e = rises_none (side.Volume v) a b falls
-
-fails_by : (v : ℕ) (outcome : Outcome) (a b : Counts) → NoneFalls a b → IsCounted outcome a b → Rises (fails_at v outcome) (side.Volume v) a b
-fails_by v (Ok (Ok x)) a b falls counted = rises_none (side.Volume v) a b falls
-fails_by v (Ok (Err (faults.Volume u))) a b falls counted = fails_volume u v a b falls counted (eqb u v) refl
-fails_by v (Ok (Err (faults.Full u))) a b falls counted = rises_none (side.Volume v) a b falls
-fails_by v (Ok (Err (faults.Damaged u offset))) a b falls counted = rises_none (side.Volume v) a b falls
-fails_by v (Ok (Err (faults.Disagree from to sent last settled received))) a b falls counted = rises_none (side.Volume v) a b falls
-fails_by v (Ok (Err faults.OutOfMemory)) a b falls counted = rises_none (side.Volume v) a b falls
-fails_by v (Err problem) a b falls counted = rises_none (side.Volume v) a b falls
-
-fails_in_by : (v : ℕ) (occasion : Occasion) (a b : Counts) → NoneFalls a b → AreItsFaults occasion a b → Rises (fails_in v occasion) (side.Volume v) a b
-fails_in_by v (request_came raw text outcome) a b falls counted = fails_by v outcome a b falls counted
+its_faults : (v : ℕ) (occasion : Occasion) (step : Events) (a b : Counts) → AreItsFaults occasion step a b
+    → Rises (attempts_about v step + fails_in v occasion) (side.Volume v) a b
+its_faults v (request_came raw text outcome) step a b counted = counted v
 
 -- no count has fallen since the first
 falls_since : (n : ℕ) (room : ℕ → ℕ) (start : Image) (turns : List Turn) (a b : Counts) → AreTurns n room start turns → AreCounted a turns b → NoneFalls a b
@@ -72,11 +58,13 @@ falls_since n room start (t ∷ earlier) a b right counted = falls_then a t.befo
     (falls_then t.before t.after b right.0.answered.counts counted.1)
 
 -- one turn more
-sum_one : (v by : ℕ) (t : Turn) (a b : Counts) → NoneFalls a t.before → NoneFalls t.before t.after → AreItsFaults t.occasion t.before t.after
+sum_one : (v by : ℕ) (t : Turn) (a b : Counts) → NoneFalls a t.before → NoneFalls t.before t.after → AreItsFaults t.occasion t.step t.before t.after
     → NoneFalls t.after b → Rises by (side.Volume v) a t.before
-    → Rises (by + fails_in v t.occasion) (side.Volume v) a b
-sum_one v by t a b since counts counted falls sum = rises_then by (fails_in v t.occasion) (side.Volume v) a t.before b since sum
-    (rises_before (fails_in v t.occasion) (side.Volume v) t.before t.after b (fails_in_by v t.occasion t.before t.after counts counted) falls)
+    → Rises (by + (attempts_about v t.step + fails_in v t.occasion)) (side.Volume v) a b
+sum_one v by t a b since counts counted falls sum =
+    rises_then by (attempts_about v t.step + fails_in v t.occasion) (side.Volume v) a t.before b since sum
+    (rises_before (attempts_about v t.step + fails_in v t.occasion) (side.Volume v) t.before t.after b
+    (its_faults v t.occasion t.step t.before t.after counted) falls)
 
 sum_turns : (n : ℕ) (room : ℕ → ℕ) (start : Image) (turns : List Turn) (a b : Counts) (v : ℕ) → AreTurns n room start turns → AreCounted a turns b
     → Rises (failures v turns) (side.Volume v) a b

@@ -1,6 +1,9 @@
 -- The desk puts nothing out.
-use Rattle.std.proofs.Common.{◌≡◌, ℕ, List, [], ◌∷◌, ◌++◌, Option, Some, None, Result, Ok, Err, refl, ◌∙◌, ap, ⊎_elim}
+use Rattle.std.proofs.Common.{◌≡◌, ℕ, Bool, true, false, List, [], ◌∷◌, ◌++◌, Option, Some, None, Result, Ok, Err, refl, ◌∙◌, ap, ⊎_elim}
 use Rattle.s3r_history.specs.Words.{History}
+use Rattle.s3r_history.specs.declared.due.Due.{Due}
+use Rattle.s3r_desk.specs.declared.copy_outcome.CopyOutcome.{CopyOutcome}
+use Rattle.s3r_desk.specs.declared.copy_outcome.CopyOutcome.TheVariants as outcomes
 use Rattle.s3r_desk.specs.declared.fault.DeskFault.{DeskFault}
 use Rattle.s3r_desk.specs.declared.fault.DeskFault.TheVariants as faults
 use Rattle.s3r_desk.specs.declared.request.Request.{Request}
@@ -8,7 +11,9 @@ use Rattle.s3r_desk.specs.declared.request.Answer.{Answer}
 use Rattle.s3r_desk.specs.Events.{found, began, answered, Events, history_at}
 use Rattle.s3r_desk.specs.Steps.{Commit, Histories, made, after_commit, step}
 use Rattle.s3r_desk.specs.Comparing.{disagreement}
-use Rattle.s3r_desk.specs.Responds.{IsBelow, AreTouched, StopsAt, Comes, StepsUnless, IsTurn}
+use Rattle.s3r_desk.specs.Stopping.{StopsAt, IsStarved}
+use Rattle.s3r_desk.specs.Copying.{clean, IsMissed, IsTry, TurnsOut, IsTouched}
+use Rattle.s3r_desk.specs.Responds.{IsBelow, AreTouched, Comes, StepsUnless, IsStepTurn, pair_of, IsCopied, TurnsBy, IsTurn}
 use Rattle.s3r_service.specs.Passing.{output_of}
 use Rattle.s3r_service.proofs.Passing.{output_then}
 
@@ -48,11 +53,76 @@ steps_silent : (fault : Option DeskFault) (n : ℕ) (room : ℕ → ℕ) (at : H
 steps_silent None n room at request events result steps = let s = step n at request in comes_silent room at s.commits s.reply events result steps
 steps_silent (Some fault) n room at request events result steps = ap output_of steps.1
 
-pub turn_silent : (P : ℕ → History → Type 0) (n : ℕ) (room : ℕ → ℕ) (before : Events) (request : Request) (result : Result Answer DeskFault) (events : Events)
-    → IsTurn P n room before request result events → output_of events ≡ []
-turn_silent P n room before request result events t =
+step_silent : (P : ℕ → History → Type 0) (n : ℕ) (room : ℕ → ℕ) (before : Events) (request : Request) (result : Result Answer DeskFault)
+    (events : Events) → IsStepTurn P n room before request result events → output_of events ≡ []
+step_silent P n room before request result events t =
     ap output_of t.parts ∙ output_then t.rest t.touched ∙ ap (λ (l : List ℕ). l ++ output_of t.rest) (touched_silent P (IsBelow n) before t.touched t.touches)
     ∙ ⊎_elim
     (λ (known, steps). let at = history_at (t.touched ++ before) in steps_silent (disagreement n at) n room at request t.rest result steps)
     (λ (none, fails). ap output_of none)
     t.steps
+
+-- ---- a turn of the copier
+
+one_silent : (P : ℕ → History → Type 0) (before : Events) (r : ℕ) (events : Events) → IsTouched P before r events → output_of events ≡ []
+one_silent P before r events touched = ⊎_elim (λ none. ap output_of none) (λ w. ap output_of w.3) touched
+
+doubt_silent : (s d : ℕ) (now : Events) (t : Due) (doubt : Events) → IsMissed s d now t doubt → output_of doubt ≡ []
+doubt_silent s d now t doubt miss = ⊎_elim (λ w. ap output_of w.1) (λ w. ap output_of w.2) miss.missed
+
+try_silent : (s d : ℕ) (now events : Events) (Such : Due → Events → Type 0) (try : IsTry s d now events Such) → output_of try.rest ≡ [] → output_of events ≡ []
+try_silent s d now events Such try rest = ap output_of try.parts ∙ output_then try.rest try.doubt
+    ∙ ap (λ (l : List ℕ). l ++ output_of try.rest) (doubt_silent s d now try.task try.doubt try.missed) ∙ rest
+
+starved_silent : (room : ℕ → ℕ) (at : Histories) (commits : List Commit) (events : Events) → IsStarved room at commits events → output_of events ≡ []
+starved_silent room at commits events starved = ⊎_elim
+    (λ none. ap output_of none)
+    (λ (stops, last). stops_silent room at commits events stops (⊎_elim (λ none. ap output_of none) (λ doubt. ap output_of doubt) last))
+    starved
+
+turns_out_silent : (room : ℕ → ℕ) (s d : ℕ) (now events : Events) (result : Result CopyOutcome DeskFault) → TurnsOut room s d now events result
+    → output_of events ≡ []
+turns_out_silent room s d now events (Ok outcomes.Idle) ends = ap output_of ends.2
+turns_out_silent room s d now events (Ok (outcomes.Settled number outcome)) ends =
+    ap output_of ends.5 ∙ made_silent (history_at now) (clean s d (history_at now) ends.0)
+turns_out_silent room s d now events (Ok (outcomes.Retried number k)) ends = try_silent s d now events _ ends (ap output_of ends.such.2)
+turns_out_silent room s d now events (Ok (outcomes.GaveUp number)) ends = try_silent s d now events _ ends (ap output_of ends.such.2)
+turns_out_silent room s d now events (Err (faults.Volume v)) fails = ⊎_elim
+    (λ w. ap output_of w.0)
+    (λ w. ⊎_elim
+    (λ cut. stops_silent room (history_at now) (clean s d (history_at now) cut.0) events cut.2.stops (ap output_of cut.2.doubt))
+    (λ try. try_silent s d now events _ try (ap output_of try.such.1))
+    w.1)
+    fails
+turns_out_silent room s d now events (Err (faults.Full v)) fails = ⊎_elim
+    (λ cut. stops_silent room (history_at now) (clean s d (history_at now) cut.0) events cut.2.stops (ap output_of cut.2.none))
+    (λ w. try_silent s d now events _ w.1 (ap output_of w.1.such.1))
+    fails
+turns_out_silent room s d now events (Err (faults.Damaged v offset)) fails = ap output_of fails.0
+turns_out_silent room s d now events (Err (faults.Disagree from to sent last settled received)) fails = ap output_of fails.0
+turns_out_silent room s d now events (Err faults.OutOfMemory) fails = ⊎_elim
+    (λ none. ap output_of none)
+    (λ w. ⊎_elim
+    (λ cut. starved_silent room (history_at now) (clean s d (history_at now) cut.0) events cut.2)
+    (λ try. try_silent s d now events _ try (ap output_of try.such))
+    w)
+    fails
+
+copied_silent : (P : ℕ → History → Type 0) (room : ℕ → ℕ) (s d : ℕ) (before : Events) (result : Result Answer DeskFault) (events : Events) (b : Bool)
+    → IsCopied P room s d before result events b → output_of events ≡ []
+copied_silent P room s d before result events true did =
+    let t = did.2 in
+    ap output_of t.parts ∙ output_then t.rest (t.receiver ++ t.sender) ∙ ap (λ (l : List ℕ). l ++ output_of t.rest) (output_then t.receiver t.sender
+    ∙ ap (λ (l : List ℕ). l ++ output_of t.receiver) (one_silent P before s t.sender t.touches_sender)
+    ∙ one_silent P (t.sender ++ before) d t.receiver t.touches_receiver)
+    ∙ turns_out_silent room s d ((t.receiver ++ t.sender) ++ before) t.rest did.0 t.comes
+copied_silent P room s d before result events false did = ap output_of did.1
+
+turns_by_silent : (P : ℕ → History → Type 0) (n : ℕ) (room : ℕ → ℕ) (before : Events) (request : Request) (result : Result Answer DeskFault)
+    (events : Events) (pair : Option (ℕ × ℕ)) → TurnsBy pair P n room before request result events → output_of events ≡ []
+turns_by_silent P n room before request result events None turn = step_silent P n room before request result events turn
+turns_by_silent P n room before request result events (Some pair) turn = copied_silent P room pair.0 pair.1 before result events _ turn
+
+pub turn_silent : (P : ℕ → History → Type 0) (n : ℕ) (room : ℕ → ℕ) (before : Events) (request : Request) (result : Result Answer DeskFault) (events : Events)
+    → IsTurn P n room before request result events → output_of events ≡ []
+turn_silent P n room before request result events turn = turns_by_silent P n room before request result events (pair_of request) turn

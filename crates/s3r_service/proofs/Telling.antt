@@ -1,22 +1,22 @@
 -- One request, from its step to the last byte of its answer.
-use Rattle.std.proofs.Common.{◌≡◌, ◌⊎◌, ℕ, Bool, true, false, cond, List, [], ◌∷◌, ◌++◌, length, take, drop, Option, Some, None, Result, Ok, Err, IfOk, OnOk, Vec, refl, sym, ◌∙◌, ap, subst, inl, inr, ⊎_elim, arith}
+use Rattle.std.proofs.Common.{◌+◌, ◌≡◌, ◌⊎◌, ℕ, Bool, true, false, cond, List, [], ◌∷◌, ◌++◌, length, take, drop, Option, Some, None, Result, Ok, Err, IfOk, OnOk, Vec, refl, sym, ◌∙◌, ap, subst, inl, inr, ⊎_elim, arith}
 use Rattle.std.specs.declared.alloc.Global.{Global}
 use Rattle.std.specs.declared.alloc.AllocError.{AllocError}
 use Rattle.std.proofs.lemmas.List.{append-nil, take-append-drop}
 use Rattle.s3r_world.specs.Image.{Image}
 use Rattle.s3r_world.specs.declared.world.Side.TheVariants as side
 use Rattle.s3r_world.specs.Outside.{Outside, Counts, NoneFalls, KeepsVolumes}
-use Rattle.s3r_world.specs.Moments.{keeps_then, falls_then, rises_before}
+use Rattle.s3r_world.specs.Moments.{keeps_then, falls_then, rises_none, rises_before}
 use Rattle.s3r_journal.proofs.Elsewhere.{left_keeps}
 use Rattle.s3r_store.specs.declared.loaded_region.LoadedRegion.{LoadedRegion}
 use Rattle.s3r_store.specs.declared.store.Store.{Store}
 use Rattle.s3r_desk.specs.declared.fault.DeskFault.{DeskFault}
-use Rattle.s3r_desk.specs.declared.fault.DeskFault.TheVariants as faults
 use Rattle.s3r_desk.specs.declared.request.Request.{Request}
 use Rattle.s3r_desk.specs.declared.request.Answer.{Answer}
 use Rattle.s3r_desk.specs.Events.{answered, Events}
 use Rattle.s3r_desk.specs.Keeping.{IsHeld, Keeps}
-use Rattle.s3r_desk.specs.Responds.{Responds, HasCause, AsRead}
+use Rattle.s3r_desk.specs.Copying.{attempts_about}
+use Rattle.s3r_desk.specs.Responds.{Responds, AsRead}
 use Rattle.s3r_desk.proofs.Keeps.{keeps_left}
 use Rattle.s3r_http.specs.declared.message.RawRequest.{RawRequest}
 use Rattle.s3r_http.specs.Request.{SpellsRequest, BeginsNone}
@@ -33,7 +33,7 @@ use Rattle.s3r_service.specs.declared.stop.Stop.{Stop}
 use Rattle.s3r_service.specs.declared.stop.Stop.TheVariants as stop
 use Rattle.s3r_service.specs.Sends.{Sends}
 use Rattle.s3r_service.specs.Passing.{Passes}
-use Rattle.s3r_service.specs.Turns.{Outcome, request_came, Turn, answer_to, reply_of, is_last, IsStepOf, IsCounted, IsAnswered, events_in}
+use Rattle.s3r_service.specs.Turns.{Outcome, request_came, Turn, answer_to, reply_of, is_last, IsStepOf, IsCounted, IsAnswered, events_in, fails_at}
 use Rattle.s3r_service.specs.Served.{stop_of, IsRefused, IsIncomplete}
 use Rattle.s3r_service.specs.Serving.{Says, Replies, AnswersOne, EndsOne, Serves}
 use Rattle.s3r_service.proofs.Fronts.{sends_none}
@@ -75,33 +75,20 @@ module _ (text : List ℕ) (count : ℕ) (a b : Outside) (put : Sends text count
 
 -- ---- a step, and its answer's text
 
-counted_by : (n : ℕ) (result : Result Answer DeskFault) (a b : Counts) → HasCause n result a b → IsCounted (Ok result) a b
-counted_by n (Ok x) a b cause = tt
-counted_by n (Err (faults.Volume u)) a b cause = cause.1
-counted_by n (Err (faults.Full u)) a b cause = tt
-counted_by n (Err (faults.Damaged u offset)) a b cause = tt
-counted_by n (Err (faults.Disagree from to sent last settled received)) a b cause = tt
-counted_by n (Err faults.OutOfMemory) a b cause = tt
-
 -- no count has fallen since
-counted_before : (outcome : Outcome) (a b d : Counts) → NoneFalls b d → IsCounted outcome a b → IsCounted outcome a d
-counted_before (Ok (Ok x)) a b d falls counted = tt
-counted_before (Ok (Err (faults.Volume u))) a b d falls counted = rises_before 1 (side.Volume u) a b d counted falls
-counted_before (Ok (Err (faults.Full u))) a b d falls counted = tt
-counted_before (Ok (Err (faults.Damaged u offset))) a b d falls counted = tt
-counted_before (Ok (Err (faults.Disagree from to sent last settled received))) a b d falls counted = tt
-counted_before (Ok (Err faults.OutOfMemory)) a b d falls counted = tt
-counted_before (Err problem) a b d falls counted = tt
+counted_before : (outcome : Outcome) (step : Events) (a b d : Counts) → NoneFalls b d → IsCounted outcome step a b → IsCounted outcome step a d
+counted_before outcome step a b d falls counted v =
+    rises_before (attempts_about v step + fails_at v outcome) (side.Volume v) a b d (counted v) falls
 
 pub falls_none : (a : Counts) → NoneFalls a a
 falls_none a = record { most = refl; volume = λ u. omega arith; input = omega arith; output = omega arith; door = omega arith }
 
 module _ (before : Events) (room : ℕ → ℕ) (raw : RawRequest) (result : Result (Vec ℕ Global) AllocError) (a b : List Store) (old new : Outside) (c d : Counts)
     (falls : NoneFalls c d) where
-  pub replies_step : (request : Request) (answer : Result Answer DeskFault) → request_of raw ≡ Ok request → Responds before request answer room a b old new
-      → HasCause (length a) answer c d
+  pub replies_step : (request : Request) (answer : Result Answer DeskFault) → request_of raw ≡ Ok request
+      → Responds before request answer room a b old new c d
       → IfOk result (λ text. text.items ≡ answer_to raw (Ok answer)) → Replies (length a) room before raw result b old new c d
-  replies_step request answer is did cause reply = record {
+  replies_step request answer is did reply = record {
     outcome = Ok answer;
     step = did.events;
     is = (request, is, did.turn, did.damage);
@@ -110,7 +97,7 @@ module _ (before : Events) (room : ℕ → ℕ) (raw : RawRequest) (result : Res
         did.happens;
     keeps = did.keeps;
     input = did.happens.input;
-    counted = counted_by (length a) answer c d cause;
+    counted = did.counted;
     counts = falls;
   }
 
@@ -125,7 +112,7 @@ replies_problem before room raw result a w c problem fails keeps reply = record 
   passes = passes_none (length a) w w (keeps_all w);
   keeps = keeps;
   input = record { input = refl; connections = refl };
-  counted = tt;
+  counted = λ v. rises_none (side.Volume v) c c (falls_none c);
   counts = falls_none c;
 }
 
@@ -155,7 +142,7 @@ module _ (n : ℕ) (room : ℕ → ℕ) (before : Events) (raw : RawRequest) (re
     passes = passes_then n did.step (answered says.sent ∷ []) old mid new did.passes (says.passes n);
     keeps = keeps_answered says.sent (did.step ++ before) stores new (keeps_left (did.step ++ before) stores mid new says.left did.keeps);
     input = keeps_then old mid new did.input says.input;
-    counted = counted_before did.outcome a b d falls did.counted;
+    counted = counted_before did.outcome did.step a b d falls did.counted;
     counts = falls_then a b d did.counts falls;
   }
 

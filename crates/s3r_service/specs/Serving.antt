@@ -37,7 +37,7 @@ pub record Replies (n : ℕ) (room : ℕ → ℕ) (before : Events) (raw : RawRe
   pub passes : Passes n step old new
   pub keeps : Keeps (step ++ before) stores new
   pub input : KeepsInput old new
-  pub counted : IsCounted outcome a b
+  pub counted : IsCounted outcome step a b
   pub counts : NoneFalls a b
 
 -- A request's step was made, and a front of its answer put out.
@@ -54,7 +54,7 @@ pub record AnswersOne (n : ℕ) (room : ℕ → ℕ) (before : Events) (raw : Ra
   pub passes : Passes n (answered sent ∷ step) old new
   pub keeps : Keeps (answered sent ∷ (step ++ before)) stores new
   pub input : KeepsInput old new
-  pub counted : IsCounted outcome a b
+  pub counted : IsCounted outcome step a b
   pub counts : NoneFalls a b
 
 -- one request went on, or the run ends behind any number of others

@@ -1,14 +1,15 @@
 -- Turns, and what each came to.
-use Rattle.std.specs.Prelude.{◌≡◌, ℕ, ◌+◌, ◌==◌, Bool, false, List, [], ◌∷◌, ◌++◌, Option, Some, None, Result, Ok, Err, if◌then◌else◌}
+use Rattle.std.specs.Prelude.{◌≡◌, ℕ, ◌+◌, Bool, false, List, [], ◌∷◌, ◌++◌, Option, Some, None, Result, Ok, Err}
 use Rattle.s3r_world.specs.Image.{Image}
 use Rattle.s3r_world.specs.declared.world.Side.TheVariants as side
 use Rattle.s3r_world.specs.Outside.{Counts, NoneFalls, Rises}
 use Rattle.s3r_store.specs.Stands.{StandsFor}
 use Rattle.s3r_desk.specs.declared.fault.DeskFault.{DeskFault}
-use Rattle.s3r_desk.specs.declared.fault.DeskFault.TheVariants as faults
 use Rattle.s3r_desk.specs.declared.request.Request.{Request}
 use Rattle.s3r_desk.specs.declared.request.Answer.{Answer}
 use Rattle.s3r_desk.specs.Events.{Events, answered}
+use Rattle.s3r_desk.specs.Copying as copying
+use Rattle.s3r_desk.specs.Copying.{attempts_about}
 use Rattle.s3r_desk.specs.Responds.{IsTurn, IsDamage}
 use Rattle.s3r_http.specs.declared.message.RawRequest.{RawRequest}
 use Rattle.s3r_http.specs.Request.{SpellsRequest}
@@ -46,15 +47,14 @@ IsStepOf n room before seen asked (Ok result) step =
     (request : Request) × (asked ≡ Ok request) × IsTurn (λ r h. StandsFor n r h (seen.volume r)) n room before request result step × IsDamage n seen result
 IsStepOf n room before seen asked (Err problem) step = Fails problem asked × (step ≡ [])
 
--- an outcome that is a volume's fault comes only where that volume's count has risen
-abbrev pub IsCounted : Outcome → Counts → Counts → Type 0
-IsCounted (Ok (Ok answer)) before after = Unit {0}
-IsCounted (Ok (Err (faults.Volume v))) before after = Rises 1 (side.Volume v) before after
-IsCounted (Ok (Err (faults.Full v))) before after = Unit {0}
-IsCounted (Ok (Err (faults.Damaged v offset))) before after = Unit {0}
-IsCounted (Ok (Err (faults.Disagree from to sent last settled received))) before after = Unit {0}
-IsCounted (Ok (Err faults.OutOfMemory)) before after = Unit {0}
-IsCounted (Err problem) before after = Unit {0}
+-- the outcome is a fault of this volume
+abbrev pub fails_at : ℕ → Outcome → ℕ
+fails_at v (Ok result) = copying.fails_at v result
+fails_at v (Err problem) = 0
+
+-- each attempt about a volume that was noted, and its fault where that is the outcome, was counted
+abbrev pub IsCounted : Outcome → Events → Counts → Counts → Type 0
+IsCounted outcome step before after = (v : ℕ) → Rises (attempts_about v step + fails_at v outcome) (side.Volume v) before after
 
 -- ---- what an occasion has
 
@@ -74,16 +74,16 @@ is_last (request_came raw text outcome) = raw.last
 abbrev pub ComesTo : ℕ → (ℕ → ℕ) → Events → Image → Occasion → Events → Type 0
 ComesTo n room before seen (request_came raw text outcome) step = SpellsRequest raw text × IsStepOf n room before seen (request_of raw) outcome step
 
--- the faults that it tells were counted
-abbrev pub AreItsFaults : Occasion → Counts → Counts → Type 0
-AreItsFaults (request_came raw text outcome) before after = IsCounted outcome before after
+-- the faults that it tells, and those that its step notes, were counted
+abbrev pub AreItsFaults : Occasion → Events → Counts → Counts → Type 0
+AreItsFaults (request_came raw text outcome) step before after = IsCounted outcome step before after
 
 -- The turn is that of its occasion, behind these events.
 pub record IsAnswered (n : ℕ) (room : ℕ → ℕ) (before : Events) (seen : Image) (t : Turn) : Type 0 where
   pub comes : ComesTo n room before seen t.occasion t.step
   pub more : List ℕ
   pub front : reply_of t.occasion ≡ t.sent ++ more
-  pub counted : AreItsFaults t.occasion t.before t.after
+  pub counted : AreItsFaults t.occasion t.step t.before t.after
   pub counts : NoneFalls t.before t.after
 
 -- So it is, the volumes being what the events have brought since the start.
@@ -116,24 +116,14 @@ abbrev pub AreCounted : Counts → List Turn → Counts → Type 0
 AreCounted start [] now = NoneFalls start now
 AreCounted start (t ∷ earlier) now = AreCounted start earlier t.before × NoneFalls t.after now
 
--- the outcome is a fault of this volume
-abbrev pub fails_at : ℕ → Outcome → ℕ
-fails_at v (Ok (Ok answer)) = 0
-fails_at v (Ok (Err (faults.Volume u))) = if u == v then 1 else 0
-fails_at v (Ok (Err (faults.Full u))) = 0
-fails_at v (Ok (Err (faults.Damaged u offset))) = 0
-fails_at v (Ok (Err (faults.Disagree from to sent last settled received))) = 0
-fails_at v (Ok (Err faults.OutOfMemory)) = 0
-fails_at v (Err problem) = 0
-
 -- the occasion's is
 abbrev pub fails_in : ℕ → Occasion → ℕ
 fails_in v (request_came raw text outcome) = fails_at v outcome
 
--- how many of them are
+-- how many of them are, or are noted as attempts
 abbrev pub failures : ℕ → List Turn → ℕ
 failures v [] = 0
-failures v (t ∷ earlier) = failures v earlier + fails_in v t.occasion
+failures v (t ∷ earlier) = failures v earlier + (attempts_about v t.step + fails_in v t.occasion)
 
 -- ---- one turn or none
 

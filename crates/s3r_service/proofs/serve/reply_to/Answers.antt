@@ -11,7 +11,7 @@ returns-in-Ok-clause-told g c = λ told before keeps.
     c.respond-answer.new.self.stores.items (g.W.World.outside c.args.world.now) (g.W.World.outside c.respond-answer.new.world)
     (g.W.World.faults c.args.world.now) (g.W.World.faults c.respond-answer.new.world)
     c.respond-answer.ensures.counts c.in-Ok.request c.respond-answer.result c.in-Ok.ensures.exact
-    (c.respond-answer.ensures.told told before keeps) c.respond-answer.ensures.cause reply
+    (c.respond-answer.ensures.told told before keeps) reply
 
 pub returns-in-Err-clause-told : goal.returns-in-Err-clause-told
 returns-in-Err-clause-told g c = λ told before keeps.
