@@ -23,14 +23,14 @@ use Rattle.s3r_history.specs.AgreeLaws.{StaysAtSender, StaysAtReceiver, StaysWit
 -- ---- the first pending task
 
 -- the least of so many numbers from a on that passes, one above all where none does
-abbrev least : (ℕ → Bool) → ℕ → ℕ → ℕ
+abbrev pub least : (ℕ → Bool) → ℕ → ℕ → ℕ
 least p a zero = a
 least p a (suc n) = cond (p a) a (least p (suc a) n)
 
-abbrev pending : History → ℕ → ℕ → Bool
+abbrev pub pending : History → ℕ → ℕ → Bool
 pending h d n = is_pending (task_state h d n)
 
-first-least : (h : History) (d n : ℕ) (es : List Carried) → first_of (tasks_from h d n es) + n ≡ least (pending h d) n (length es) + 1
+pub first-least : (h : History) (d n : ℕ) (es : List Carried) → first_of (tasks_from h d n es) + n ≡ least (pending h d) n (length es) + 1
 first-least h d n [] = omega arith
 first-least h d n (e ∷ es) = go (pending h d n) (first-least h d (suc n) es)
   where
@@ -39,10 +39,10 @@ first-least h d n (e ∷ es) = go (pending h d n) (first-least h d (suc n) es)
     go true ih = omega arith
     go false ih = omega (arith, ih)
 
-first-is : (h : History) (past : Past) (d : ℕ) → first h past d ≡ least (pending h d) 1 (sent past d)
+pub first-is : (h : History) (past : Past) (d : ℕ) → first h past d ≡ least (pending h d) 1 (sent past d)
 first-is h past d = omega (arith, first-least h d 1 (prescribed past d))
 
-least-from : (p : ℕ → Bool) (a n : ℕ) → a ≤ least p a n
+pub least-from : (p : ℕ → Bool) (a n : ℕ) → a ≤ least p a n
 least-from p a zero = omega arith
 least-from p a (suc n) = go (p a) (least-from p (suc a) n)
   where
@@ -51,7 +51,7 @@ least-from p a (suc n) = go (p a) (least-from p (suc a) n)
     go false h = omega arith
 
 -- with more numbers to look at it is no less
-least-more : (p : ℕ → Bool) (a n m : ℕ) → n ≤ m → least p a n ≤ least p a m
+pub least-more : (p : ℕ → Bool) (a n m : ℕ) → n ≤ m → least p a n ≤ least p a m
 least-more p a zero m h = least-from p a m
 least-more p a (suc n) zero h = absurd (omega arith)
 least-more p a (suc n) (suc m) h = go (p a) (least-more p (suc a) n m (omega arith))
@@ -61,7 +61,7 @@ least-more p a (suc n) (suc m) h = go (p a) (least-more p (suc a) n m (omega ari
     go false h = h
 
 -- nor where less passes
-least-less : (p q : ℕ → Bool) (a n : ℕ) → ((i : ℕ) → q i ≡ true → p i ≡ true) → least p a n ≤ least q a n
+pub least-less : (p q : ℕ → Bool) (a n : ℕ) → ((i : ℕ) → q i ≡ true → p i ≡ true) → least p a n ≤ least q a n
 least-less p q a zero h = omega arith
 least-less p q a (suc n) h = go (p a) (q a) (h a) (least-less p q (suc a) n h) (least-from q (suc a) n)
   where
@@ -82,7 +82,7 @@ fewer_attempts None k h = go (nat_lt k 8) refl
     go true e = refl
     go false e = let more : nat_lt (suc k) 8 ≡ false = grind (arith, nat_tests) in absurd (cc)
 
-pending-before : (d n : ℕ) (c : Command) (h : History) → pending (c ∷ h) d n ≡ true → pending h d n ≡ true
+pub pending-before : (d n : ℕ) (c : Command) (h : History) → pending (c ∷ h) d n ≡ true → pending h d n ≡ true
 pending-before d n (command.Settle to number outcome) h p = go ((to == d) && (number == n)) outcome p
   where
     go : (t : Bool) (outcome : Outcome) → is_pending (state_by (or_else (cond t (Some outcome) None) (settled_with h d n)) (attempts h d n)) ≡ true
@@ -115,7 +115,7 @@ slice_get-append [] ys i x h = absurd cc
 slice_get-append (y ∷ xs) ys zero x h = h
 slice_get-append (y ∷ xs) ys (suc i) x h = slice_get-append xs ys i x h
 
-each-of : {X : Type 0} (P Q : X → Type 0) → ((x : X) → P x → Q x) → (xs : List X) → AllByRecursion P xs → AllByRecursion Q xs
+pub each-of : {X : Type 0} (P Q : X → Type 0) → ((x : X) → P x → Q x) → (xs : List X) → AllByRecursion P xs → AllByRecursion Q xs
 each-of P Q f [] h = tt
 each-of P Q f (x ∷ xs) h = (f x h.0, each-of P Q f xs h.1)
 
@@ -154,7 +154,7 @@ with_itself s h c no_settle no_receive a = at_receiver s s (c ∷ h) h c no_rece
 
 -- ---- an effect is received
 
-received-next : (s d : ℕ) (k : History) (n : ℕ) (e : Carried)
+pub received-next : (s d : ℕ) (k : History) (n : ℕ) (e : Carried)
     → received (deeds d (command.Receive s n e ∷ k)) s ≡ record { number = n; effect = e; outcome = judge d k e } ∷ received (deeds d k) s
 received-next s d k n e = ap (λ t. cond t (record { number = n; effect = e; outcome = judge d k e } ∷ []) [] ++ received (deeds d k) s) (eq-eqb s s refl)
 

@@ -27,11 +27,11 @@ accepted-next n to number next ok = go (nat_le n to) (number == next) refl ok
     go false true e ok = eqb-true number next e
     go false false e ok = absurd cc
 
-length-tasks : (h : History) (d n : ℕ) (es : List Carried) → length (tasks_from h d n es) ≡ length es
+pub length-tasks : (h : History) (d n : ℕ) (es : List Carried) → length (tasks_from h d n es) ≡ length es
 length-tasks h d n [] = refl
 length-tasks h d n (e ∷ es) = ap suc (length-tasks h d (suc n) es)
 
-first-within : {E : Type 0} (tasks : List (Task E)) → list_any waits tasks ≡ true → first_of tasks ≤ length tasks
+pub first-within : {E : Type 0} (tasks : List (Task E)) → list_any waits tasks ≡ true → first_of tasks ≤ length tasks
 first-within [] some = absurd cc
 first-within (task ∷ tasks) some = go (waits task) some (first-within tasks)
   where

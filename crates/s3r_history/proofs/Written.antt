@@ -124,11 +124,11 @@ first_of_added past b stamp came_to (command.Receive from number effect) =
 first_of_added past b stamp came_to _ = tt
 
 -- what is asked of an answer that is there
-of_some : {A : Type 0} (P : A → Type 0) (o : Option A) (x : A) → o ≡ Some x → IfSome o P → P x
+pub of_some : {A : Type 0} (P : A → Type 0) (o : Option A) (x : A) → o ≡ Some x → IfSome o P → P x
 of_some P None x e p = absurd cc
 of_some P (Some y) x e p = let same : y ≡ x = cc in subst P same p
 
-if_some : {A : Type 0} (P : A → Type 0) (o : Option A) → ((x : A) → o ≡ Some x → P x) → IfSome o P
+pub if_some : {A : Type 0} (P : A → Type 0) (o : Option A) → ((x : A) → o ≡ Some x → P x) → IfSome o P
 if_some P None f = tt
 if_some P (Some x) f = f x refl
 
@@ -165,7 +165,7 @@ own_unwritten n r h lawful b key =
     (own-ahead r (length h) (next_stamp r (deeds r h)).index (omega (arith, length-deeds r h)))
 
 -- what is added to a bucket isn't among its rows
-unknown_row : (r : ℕ) (h : History) (c : Command) (b : Name) (a : Added) → (done r h c).adds ≡ Some a → bytes_eq a.bucket b ≡ true
+pub unknown_row : (r : ℕ) (h : History) (c : Command) (b : Name) (a : Added) → (done r h c).adds ≡ Some a → bytes_eq a.bucket b ≡ true
     → row_at (deeds r h) b a.row.key a.row.id ≡ None
 unknown_row r h c b a is same =
     none-found a.row.key a.row.id (rows (deeds r h) b)
@@ -277,7 +277,7 @@ each-in_order P [] each = tt
 each-in_order P (v ∷ vs) each = each-with_row P v (in_order vs) each.0 (each-in_order P vs each.1)
 
 -- What is true of each version that a command adds, and stays so of those that it leaves, is true of each version.
-record IsKept (n r : ℕ) (b : Name) (P : History → Entry → Type 0) : Type 0 where
+pub record IsKept (n r : ℕ) (b : Name) (P : History → Entry → Type 0) : Type 0 where
   pub new : (h : History) (c : Command) (a : Added) → IsLawful n r h → creates b c ≡ false → (done r h c).adds ≡ Some a → bytes_eq a.bucket b ≡ true
       → P (c ∷ h) a.row
   pub old : (h : History) (c : Command) (v : Entry) → creates b c ≡ false → adds_it b v.key v.id (done r h c).adds ≡ false → P h v → P (c ∷ h) v
@@ -300,7 +300,7 @@ each_old n r b P keeps h c goes_on (v ∷ vs) other each =
     let parts = and_parts (is_other b (done r h c).adds v) (list_all (is_other b (done r h c).adds) vs) other in
     (keeps.old h c v goes_on (not-true _ parts.0) each.0, each_old n r b P keeps h c goes_on vs parts.1 each.1)
 
-each_version : (n r : ℕ) (b : Name) (P : History → Entry → Type 0) → IsKept n r b P → (h : History) → IsLawful n r h
+pub each_version : (n r : ℕ) (b : Name) (P : History → Entry → Type 0) → IsKept n r b P → (h : History) → IsLawful n r h
     → Each (P h) (versions (deeds r h) b)
 each_version n r b P keeps [] lawful = tt
 each_version n r b P keeps (c ∷ h) lawful = go (creates b c) refl (each_version n r b P keeps h lawful.2)
@@ -361,13 +361,13 @@ present_first ws past b v is = (
       (first_greatest (v.hold_stamp, v.hold) (hold_since past b v)),
 )
 
-rows_told : (r : ℕ) (h : History) (b : Name) (at : BucketView) (o : Option Bucket) → option_map (told_as (deeds r h) b) o ≡ Some at
+pub rows_told : (r : ℕ) (h : History) (b : Name) (at : BucketView) (o : Option Bucket) → option_map (told_as (deeds r h) b) o ≡ Some at
     → rows (deeds r h) b ≡ at.rows
 rows_told r h b at None e = absurd cc
 rows_told r h b at (Some x) e = let same : told_as (deeds r h) b x ≡ at = cc in ap (λ (t : BucketView). t.rows) same
 
 -- what is true of each version with its present tags and hold is true of each row that is told
-each_row : (r : ℕ) (h : History) (b : Name) (at : BucketView) (row : Entry) (P Q : Entry → Type 0)
+pub each_row : (r : ℕ) (h : History) (b : Name) (at : BucketView) (row : Entry) (P Q : Entry → Type 0)
     → ((v : Entry) → P v → Q (at_present (deeds r h) b v)) → Each P (versions (deeds r h) b) → told r h b ≡ Some at → Contains at.rows row → Q row
 each_row r h b at row P Q to each is there =
     let vs = map (at_present (deeds r h) b) (versions (deeds r h) b) in
