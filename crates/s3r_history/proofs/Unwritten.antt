@@ -337,7 +337,7 @@ before_kept b c k i stays (v ∷ rs) all = go (removes b v.key v.id c) refl all 
         and_from _ _ parts.0 (ih parts.1)
 
 -- Where a version isn't there after a command that neither creates its bucket nor removes it, it wasn't there before.
-not_before : (r : ℕ) (h : History) (c : Command) (b k : Name) (i : VersionId) → creates b c ≡ false → removes b k i c ≡ false
+pub not_before : (r : ℕ) (h : History) (c : Command) (b k : Name) (i : VersionId) → creates b c ≡ false → removes b k i c ≡ false
     → row_at (deeds r (c ∷ h)) b k i ≡ None → (row_at (deeds r h) b k i ≡ None) × (adds_it b k i (done r h c).adds ≡ false)
 not_before r h c b k i goes_on stays none =
     let rs = kept_by b c (rows (deeds r h) b) in
