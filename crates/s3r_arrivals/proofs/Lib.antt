@@ -1,0 +1,4 @@
+pub mod Standing
+pub mod Receipts
+pub mod Ending
+pub mod Received

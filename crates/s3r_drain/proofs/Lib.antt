@@ -1,0 +1,7 @@
+mod Counting
+mod Orderly
+mod OneTurn
+mod ManyTurns
+mod Agreed
+mod Leading
+mod Undisturbed
