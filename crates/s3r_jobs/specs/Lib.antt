@@ -1,0 +1,16 @@
+pub mod Spec
+pub mod Same
+pub mod States
+pub mod Stages
+pub mod Threshold
+pub mod Room
+pub mod Facts
+pub mod Moves
+pub mod MoveLaws
+pub mod Lines
+pub mod LineLaws
+pub mod Any
+pub mod Jobs
+pub mod Duties
+pub mod Turn
+pub mod TurnLaws
