@@ -4,4 +4,4 @@ mod OneTurn
 mod ManyTurns
 mod Agreed
 mod Leading
-mod Undisturbed
+pub mod Undisturbed

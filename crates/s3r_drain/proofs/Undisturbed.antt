@@ -36,7 +36,7 @@ fewer : (most : Option ℕ) (x a b : ℕ) → 1 ≤ x → HasRisen most x a b �
 fewer None x a b le rises = omega (arith, le, rises)
 fewer (Some most) x a b le rises = omega (arith, le, rises)
 
-rises-one : (x : ℕ) (side : Side) (a b : Counts) → 1 ≤ x → Rises x side a b → Rises 1 side a b
+pub rises-one : (x : ℕ) (side : Side) (a b : Counts) → 1 ≤ x → Rises x side a b → Rises 1 side a b
 rises-one x side a b le rises = fewer a.most x (count_of side a) (count_of side b) le rises
 
 -- a fault that is answered was counted
@@ -85,7 +85,7 @@ all-within : (sent answered first received : ℕ) → answered ≤ received → 
     → is_within sent answered (first - 1) received ≡ true
 all-within sent answered first received below due there = grind (arith, nat_tests, below, due, there)
 
-pair-agrees : (s d : ℕ) (h k : History) → Agrees s d h k → pair_fault s d h k ≡ None
+pub pair-agrees : (s d : ℕ) (h k : History) → Agrees s d h k → pair_fault s d h k ≡ None
 pair-agrees s d h k agree =
     let within = history.is_within s d h k agree in
     let ok = all-within (sent (deeds s h) d) (answered_of (tasks_to h (deeds s h) d)) (first h (deeds s h) d) (watermark_of (last_from (deeds d k) s))
