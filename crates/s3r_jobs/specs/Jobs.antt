@@ -1,6 +1,7 @@
 -- The jobs of a region.
 use Rattle.std.specs.Prelude.{ℕ, suc, ◌+◌, ◌-◌, ◌≤◌, ◌==◌, Bool, false, ◌||◌, not, IsTrue, List, [], ◌∷◌, ◌++◌, find, Option, Some, None, is_some, if◌then◌else◌}
 use Rattle.std.specs.List.{list_all}
+use Rattle.std.specs.Option.{option_or}
 use Rattle.std.specs.Str.{bytes_eq}
 use Rattle.s3r_jobs.specs.declared.spec.ReportSpec.{ReportSpec}
 use Rattle.s3r_jobs.specs.States.{has_ended}
@@ -28,10 +29,6 @@ is_unended job = not (has_ended job.state)
 abbrev pub AreApart : List JobFacts → List JobFacts → Type 0
 AreApart live ended = IsTrue (list_all is_unended live) × IsTrue (list_all is_ended ended)
 
-abbrev pub or_else : {X : Type 0} → Option X → Option X → Option X
-or_else None other = other
-or_else (Some x) other = Some x
-
 abbrev pub is_job : ℕ → JobFacts → Bool
 is_job id job = job.id == id
 
@@ -41,7 +38,7 @@ place_of id [] = 0
 place_of id (job ∷ jobs) = if is_job id job then 0 else suc (place_of id jobs)
 
 abbrev pub find_job : ℕ → JobsFacts → Option JobFacts
-find_job id jobs = or_else (find (is_job id) jobs.live) (find (is_job id) jobs.ended)
+find_job id jobs = option_or (find (is_job id) jobs.live) (find (is_job id) jobs.ended)
 
 -- without the first job of that id
 abbrev pub without : ℕ → List JobFacts → List JobFacts
@@ -69,7 +66,7 @@ has_token token job = bytes_eq job.spec.token token
 
 -- the job that was made with a token
 abbrev pub token_job : List ℕ → JobsFacts → Option JobFacts
-token_job token jobs = or_else (find (has_token token) jobs.live) (find (has_token token) jobs.ended)
+token_job token jobs = option_or (find (has_token token) jobs.live) (find (has_token token) jobs.ended)
 
 abbrev pub goes_to : List ℕ → Option ReportSpec → Bool
 goes_to bucket None = false

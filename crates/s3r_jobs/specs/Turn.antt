@@ -1,6 +1,7 @@
 -- Whose turn it is.
 use Rattle.std.specs.Prelude.{ℕ, ◌+◌, ◌==◌, Bool, ◌&&◌, ◌||◌, nat_lt, List, [], ◌∷◌, length, find, Option, Some, None, is_some, if◌then◌else◌}
 use Rattle.std.specs.List.{list_any}
+use Rattle.std.specs.Option.{option_and_then, option_or}
 use Rattle.s3r_jobs.specs.declared.state.JobState.{JobState}
 use Rattle.s3r_jobs.specs.declared.state.JobState.TheVariants as state
 use Rattle.s3r_jobs.specs.declared.turn.NextStep.{NextStep}
@@ -9,7 +10,7 @@ use Rattle.s3r_jobs.specs.States.{is_stopping, is_preparing, is_new, is_pausing,
 use Rattle.s3r_jobs.specs.Facts.{JobFacts}
 use Rattle.s3r_jobs.specs.Moves.{may_move, is_done}
 use Rattle.s3r_jobs.specs.Lines.{is_free}
-use Rattle.s3r_jobs.specs.Jobs.{is_job, or_else}
+use Rattle.s3r_jobs.specs.Jobs.{is_job}
 
 abbrev pub lesser : ℕ → Option ℕ → Option ℕ
 lesser n None = Some n
@@ -56,27 +57,23 @@ running_step jobs job =
     else if is_free job.turn then Some (step.Line job.id (length job.results + 1))
     else None
 
-abbrev pub option_then : {A B : Type 0} → Option A → (A → Option B) → Option B
-option_then None f = None
-option_then (Some x) f = f x
-
 -- the step of the Active job of lowest id
 abbrev pub active_step : List JobFacts → Option NextStep
-active_step jobs = option_then (lowest is_active jobs) (λ id. option_then (find (is_job id) jobs) (running_step jobs))
+active_step jobs = option_and_then (λ id. option_and_then (running_step jobs) (find (is_job id) jobs)) (lowest is_active jobs)
 
 -- the best job that waits begins or goes on, where none is Active or Pausing
 abbrev pub start_step : List JobFacts → Option NextStep
-start_step jobs = if is_some (running jobs) then None else option_then (best jobs) (λ (b : Rank). Some (step.Move b.1 state.Active))
+start_step jobs = if is_some (running jobs) then None else option_and_then (λ (b : Rank). Some (step.Move b.1 state.Active)) (best jobs)
 
 -- the step of the job of lowest id in such a state
 abbrev pub lowest_step : (JobState → Bool) → (ℕ → NextStep) → List JobFacts → Option NextStep
-lowest_step test step jobs = option_then (lowest test jobs) (λ id. Some (step id))
+lowest_step test step jobs = option_and_then (λ id. Some (step id)) (lowest test jobs)
 
 -- The first of these that can be done.
 abbrev pub next_step : List JobFacts → Option NextStep
 next_step jobs =
-    or_else (lowest_step is_stopping step.Finish jobs)
-    (or_else (lowest_step is_preparing step.Prepare jobs)
-    (or_else (lowest_step is_new (λ id. step.Move id state.Preparing) jobs)
-    (or_else (lowest_step is_pausing (λ id. step.Move id state.Paused) jobs)
-    (or_else (active_step jobs) (start_step jobs)))))
+    option_or (lowest_step is_stopping step.Finish jobs)
+    (option_or (lowest_step is_preparing step.Prepare jobs)
+    (option_or (lowest_step is_new (λ id. step.Move id state.Preparing) jobs)
+    (option_or (lowest_step is_pausing (λ id. step.Move id state.Paused) jobs)
+    (option_or (active_step jobs) (start_step jobs)))))

@@ -1,5 +1,5 @@
 -- The lines of a manifest, and its first refusal.
-use Rattle.std.specs.Prelude.{ℕ, suc, ◌==◌, nat_lt, if◌then◌else◌, List, [], ◌∷◌, length, take, Bool, Option, Some, None, Result, Ok, Err}
+use Rattle.std.specs.Prelude.{ℕ, suc, ◌==◌, nat_lt, if◌then◌else◌, List, [], ◌∷◌, length, take, unwrap_or, Bool, Option, Some, None, Result, Ok, Err}
 use Rattle.csv.specs.Reading.{records, default_config, strip_bom}
 use Rattle.csv.specs.Records.{field_at}
 use Rattle.s3r_names.specs.declared.version.VersionId.{VersionId}
@@ -29,13 +29,9 @@ abbrev pub ◌>>=◌ : {A B E : Type 0} → Result A E → (A → Result B E) �
 abbrev pub Row : Type 0
 Row = List (List ℕ)
 
-abbrev pub or_nothing : Option (List ℕ) → List ℕ
-or_nothing None = []
-or_nothing (Some bytes) = bytes
-
 -- the field at a place, from 0; nothing where there is none
 abbrev pub field : ℕ → Row → List ℕ
-field place row = or_nothing (field_at row place)
+field place row = unwrap_or (field_at row place) []
 
 -- a name, or what is wrong of the record that doesn't have it
 abbrev pub named : {X : Type 0} → LineKind → Result X RouteFault → Result X LineKind
