@@ -6,6 +6,7 @@ use Rattle.serde_json.specs.Written.{compact_text}
 use Rattle.s3r_names.specs.declared.version.VersionId.{VersionId}
 use Rattle.s3r_rules.specs.declared.fault.Kind.{Kind}
 use Rattle.s3r_rules.specs.Kinds.{kind_text}
+use Rattle.s3r_jobs.specs.Texts.{state_text, wanted_text}
 use Rattle.s3r_rules_json.specs.Printing.{config_data}
 use Rattle.s3r_history.specs.declared.refusal.Refusal.{Refusal}
 use Rattle.s3r_history.specs.declared.refusal.Refusal.TheVariants as refusal
@@ -111,6 +112,13 @@ rule_members kind rule = member (codes "Kind") (string kind) (member (codes "Rul
 abbrev pub kind_reply : ℕ → Kind → Reply
 kind_reply rule kind = json_reply 400 (code_text (codes "InvalidRequest") (rule_members (kind_text kind) rule))
 
+-- the state that a job is in, and what was wanted of it
+abbrev pub job_members : List ℕ → List ℕ → Members
+job_members from wanted = member (codes "From") (string from) (member (codes "Wanted") (string wanted) no_members)
+
+abbrev pub job_member : List ℕ → Members
+job_member id = member (codes "JobId") (string id) no_members
+
 abbrev pub refusal_reply : Refusal → Reply
 refusal_reply refusal.NoSuchBucket = coded 404 (codes "NoSuchBucket")
 refusal_reply refusal.BucketAlreadyExists = coded 409 (codes "BucketAlreadyExists")
@@ -129,6 +137,11 @@ refusal_reply refusal.TooManyBuckets = coded 400 (codes "TooManyBuckets")
 refusal_reply refusal.NoSuchKey = coded 404 (codes "NoSuchKey")
 refusal_reply refusal.InvalidLocation = coded 400 (codes "InvalidLocationConstraint")
 refusal_reply refusal.InvalidArgument = coded 400 (codes "InvalidArgument")
+refusal_reply refusal.NoSuchJob = coded 404 (codes "NoSuchJob")
+refusal_reply refusal.TooManyJobs = coded 400 (codes "TooManyJobs")
+refusal_reply (refusal.JobStatus from wanted) =
+    json_reply 400 (code_text (codes "JobStatusException") (job_members (state_text from) (wanted_text wanted)))
+refusal_reply (refusal.Idempotency id) = json_reply 400 (code_text (codes "IdempotencyException") (job_member (id_text id)))
 
 abbrev pub marked_status : Bool → ℕ
 marked_status named = if named then 405 else 404

@@ -8,15 +8,18 @@ ghost use Rattle.s3r_json.specs.Tags.{tags_data};
 ghost use Rattle.s3r_rules_json.specs.Printing.{config_data};
 ghost use Rattle.s3r_api.specs.Copying.{copy_data};
 ghost use Rattle.s3r_api.specs.Listings.{listing_data};
-ghost use Rattle.s3r_api.specs.Replies.{json_reply, status_reply, hold_word, versioning_word, code_data, code_text, coded, pair_data, region_name, region_members, rule_members, kind_reply, refusal_reply, fault_reply, problem_reply};
+ghost use Rattle.s3r_history.specs.declared.refusal.Refusal.{Refusal};
+ghost use Rattle.s3r_api.specs.Replies.{json_reply, status_reply, hold_word, versioning_word, code_data, code_text, coded, pair_data, region_name, region_members, rule_members, kind_reply, job_members, job_member, refusal_reply, fault_reply, problem_reply};
 
 use crate::copies::copy_text;
+use crate::ids::id_text;
 use crate::listings::listing_text;
 use crate::problem::Problem;
 use http::StatusCode;
 use s3r_desk::{CopyOutcome, DeskFault, Listing, Refusal, Statuses};
+use s3r_jobs::{JobState, Wanted};
 use s3r_json::{status_text, tags_text};
-use s3r_names::TagSet;
+use s3r_names::{TagSet, VersionId};
 use s3r_rules::{Config, Kind};
 use s3r_rules_json::print_config;
 use serde_json::{Value, json};
@@ -146,6 +149,39 @@ fn kind_reply(alloc: Global, rule: u32, kind: Kind) -> Result<JsonReply, AllocEr
     })
 }
 
+/// The state that a job is in, and what was wanted of it.
+fn job_value(alloc: Global, from: &str, wanted: &str) -> Result<Value, AllocError>
+    ensures { IfOk result (λ value. view value ≡ code_data (codes "JobStatusException") (job_members from.now wanted.now)) }
+{
+    json!(in alloc; {"Code": "JobStatusException", "From": from, "Wanted": wanted})
+}
+
+fn job_status_reply(alloc: Global, from: JobState, wanted: Wanted) -> Result<JsonReply, AllocError>
+    ensures { IfOk result (λ reply. json_reply reply.status (string_bytes reply.body) ≡ refusal_reply (Refusal.JobStatus from wanted)) }
+{
+    Ok(JsonReply {
+        status: StatusCode::BAD_REQUEST,
+        body: job_value(alloc, from.as_str(), wanted.as_str())?.to_string(alloc)?,
+    })
+}
+
+fn token_value(alloc: Global, id: &str) -> Result<Value, AllocError>
+    ensures { IfOk result (λ value. view value ≡ code_data (codes "IdempotencyException") (job_member id.now)) }
+{
+    json!(in alloc; {"Code": "IdempotencyException", "JobId": id})
+}
+
+/// The job that a token made.
+fn idempotency_reply(alloc: Global, id: VersionId) -> Result<JsonReply, AllocError>
+    ensures { IfOk result (λ reply. json_reply reply.status (string_bytes reply.body) ≡ refusal_reply (Refusal.Idempotency id)) }
+{
+    let id = id_text(alloc, id)?;
+    Ok(JsonReply {
+        status: StatusCode::BAD_REQUEST,
+        body: token_value(alloc, id.as_str())?.to_string(alloc)?,
+    })
+}
+
 pub fn refusal_reply(alloc: Global, refusal: Refusal) -> Result<JsonReply, AllocError>
     ensures { IfOk result (λ reply. json_reply reply.status (string_bytes reply.body) ≡ refusal_reply refusal) }
 {
@@ -181,6 +217,10 @@ pub fn refusal_reply(alloc: Global, refusal: Refusal) -> Result<JsonReply, Alloc
             coded(alloc, StatusCode::BAD_REQUEST, "InvalidLocationConstraint")
         }
         Refusal::InvalidArgument => coded(alloc, StatusCode::BAD_REQUEST, "InvalidArgument"),
+        Refusal::NoSuchJob => coded(alloc, StatusCode::NOT_FOUND, "NoSuchJob"),
+        Refusal::TooManyJobs => coded(alloc, StatusCode::BAD_REQUEST, "TooManyJobs"),
+        Refusal::JobStatus { from, wanted } => job_status_reply(alloc, from, wanted),
+        Refusal::Idempotency { id } => idempotency_reply(alloc, id),
     }
 }
 

@@ -88,20 +88,20 @@ not-deleted n r h name b k i ok stands = go (bytes_eq name b) refl
         let same = (bytes_eq-Decides name b).0 e in
         let there = born-told r h name (subst (λ (x : Name). is_born h x ≡ true) (sym same) stands.born) in
         let none : row_at (deeds r h) name k i ≡ None → ⊥ = subst (λ (x : Name). row_at (deeds r h) x k i ≡ None → ⊥) (sym same) stands.there in
-        absurd (refused (told r h name) there.0 there.1.0 there.1.1 none ok)
+        absurd (refused _ (told r h name) there.0 there.1.0 there.1.1 none ok)
       where
-        refused : (o : Option BucketView) (at : BucketView) → o ≡ Some at → at.rows ≡ rows (deeds r h) name → (row_at (deeds r h) name k i ≡ None → ⊥)
-            → first_of_causes (in_bucket of_deletion o) ≡ None → ⊥
-        refused None at is same there ok = absurd cc
-        refused (Some x) at is same there ok =
+        refused : (reported : Bool) (o : Option BucketView) (at : BucketView) → o ≡ Some at → at.rows ≡ rows (deeds r h) name → (row_at (deeds r h) name k i ≡ None → ⊥)
+            → first_of_causes (in_bucket (of_deletion reported) o) ≡ None → ⊥
+        refused reported None at is same there ok = absurd cc
+        refused reported (Some x) at is same there ok =
             let that : x ≡ at = cc in
             empty (rows (deeds r h) name) (sym same ∙ ap (λ (t : BucketView). t.rows) (sym that)) there ok
           where
-            empty : (rs : List Entry) → rs ≡ x.rows → (find_version k i rs ≡ None → ⊥) → first_of_causes (of_deletion x) ≡ None → ⊥
+            empty : (rs : List Entry) → rs ≡ x.rows → (find_version k i rs ≡ None → ⊥) → first_of_causes (of_deletion reported x) ≡ None → ⊥
             empty [] e there ok = there refl
             empty (row ∷ rs) e there ok =
-                let has : first_of_causes (of_deletion x) ≡ Some refusals.BucketNotEmpty =
-                ap (λ (xs : List Entry). first_of_causes ((has_rows xs, refusals.BucketNotEmpty) ∷ [])) (sym e) in
+                let has : first_of_causes (of_deletion reported x) ≡ Some refusals.BucketNotEmpty =
+                ap (λ (xs : List Entry). first_of_causes ((has_rows xs, refusals.BucketNotEmpty) ∷ (reported, refusals.InvalidBucketState) ∷ [])) (sym e) in
                 absurd cc
 
 still-there : (r : ℕ) (h : History) (c : Command) (b k : Name) (i : VersionId) → creates b c ≡ false → removes b k i c ≡ false

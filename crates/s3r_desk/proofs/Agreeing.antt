@@ -70,6 +70,12 @@ settling d (command.Settle to number outcome) = go (to == d) refl
     go true is = that number outcome (ap (λ (x : ℕ). command.Settle x number outcome) (same_number to d is))
     go false is = other is
 settling d (command.Attempt to number) = other refl
+settling d (command.CreateJob spec manifest) = other refl
+settling d (command.MoveJob job state) = other refl
+settling d (command.SetPriority job priority) = other refl
+settling d (command.Prepare job) = other refl
+settling d (command.Line job line) = other refl
+settling d (command.Finish job body) = other refl
 
 -- it is a Receive from the region, or receives nothing from it
 data ReceivesFrom (s : ℕ) (c : Command) : Type 0 where
@@ -94,6 +100,12 @@ receiving s (command.Receive from number effect) = go (from == s) refl
     go false is = other is
 receiving s (command.Settle to number outcome) = other refl
 receiving s (command.Attempt to number) = other refl
+receiving s (command.CreateJob spec manifest) = other refl
+receiving s (command.MoveJob job state) = other refl
+receiving s (command.SetPriority job priority) = other refl
+receiving s (command.Prepare job) = other refl
+receiving s (command.Line job line) = other refl
+receiving s (command.Finish job body) = other refl
 
 -- at the sender a
 at_sender : (a b : ℕ) (c : Command) (g kb : History) → Settles a b kb c → Agrees a b g kb → Agrees a b (c ∷ g) kb

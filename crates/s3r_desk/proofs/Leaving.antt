@@ -18,6 +18,9 @@ use Rattle.s3r_history.specs.Past.{Entry}
 use Rattle.s3r_history.specs.BucketView.{BucketView}
 use Rattle.s3r_history.specs.RegionView.{RegionView, view}
 use Rattle.s3r_history.specs.Accepts.{Cause, first_of_causes, in_bucket, in_version, of_deletion, of_switch, of_put, of_marker, of_removal, of_tags, of_a_marker, under_hold, beyond, unless_beyond, of_configuration, of_dropping, causes, refusal}
+use Rattle.s3r_history.specs.Accepts.{in_job, of_token, of_manifest, of_job, of_move, of_priority}
+use Rattle.s3r_jobs.specs.Facts.{JobFacts}
+use Rattle.s3r_jobs.specs.Jobs.{find_job, token_job, reports_to}
 use Rattle.s3r_desk.specs.declared.request.Request.{Request}
 use Rattle.s3r_desk.specs.declared.request.Request.TheVariants as request
 use Rattle.s3r_desk.specs.declared.request.Answer.{Answer}
@@ -58,6 +61,14 @@ in-version : (more : Entry → List Cause) → ((row : Entry) → all_told (more
 in-version more all None = refl
 in-version more all (Some row) = all row
 
+in-token : (r : ℕ) (o : Option JobFacts) (more : List Cause) → all_told more ≡ true → all_told (of_token r o more) ≡ true
+in-token r None more all = all
+in-token r (Some job) more all = all
+
+in-job : (more : JobFacts → List Cause) → ((job : JobFacts) → all_told (more job) ≡ true) → (o : Option JobFacts) → all_told (in_job more o) ≡ true
+in-job more all None = refl
+in-job more all (Some job) = all job
+
 -- a request may ask for the command: the regions that it names are there, and it is about no task
 abbrev pub MayBeAsked : ℕ → Command → Type 0
 MayBeAsked n (command.CreateBucket name locked) = Unit {0}
@@ -73,11 +84,18 @@ MayBeAsked n (command.SetHold b key id hold) = Unit {0}
 MayBeAsked n (command.Receive from number effect) = ⊥
 MayBeAsked n (command.Settle to number outcome) = ⊥
 MayBeAsked n (command.Attempt to number) = ⊥
+MayBeAsked n (command.CreateJob spec manifest) = Unit {0}
+MayBeAsked n (command.MoveJob job state) = Unit {0}
+MayBeAsked n (command.SetPriority job priority) = Unit {0}
+MayBeAsked n (command.Prepare job) = ⊥
+MayBeAsked n (command.Line job line) = ⊥
+MayBeAsked n (command.Finish job body) = ⊥
 
 causes-told : (n : ℕ) (v : RegionView) (c : Command) → MayBeAsked n c → all_told (causes n v c) ≡ true
 causes-told n v (command.CreateBucket name locked) asked = refl
-causes-told n v (command.DeleteBucket name) asked = in-bucket of_deletion (λ t. refl) (v.bucket name)
-causes-told n v (command.SetVersioning name enabled) asked = in-bucket (of_switch enabled) (λ t. refl) (v.bucket name)
+causes-told n v (command.DeleteBucket name) asked = in-bucket (of_deletion (reports_to name v.jobs.live)) (λ t. refl) (v.bucket name)
+causes-told n v (command.SetVersioning name enabled) asked =
+    in-bucket (of_switch enabled (reports_to name v.jobs.live)) (λ t. refl) (v.bucket name)
 causes-told n v (command.SetReplication name config regions) asked =
     ap (λ o. all_told (unless_beyond (in_bucket of_configuration (v.bucket name)) o)) asked ∙ in-bucket of_configuration (λ t. refl) (v.bucket name)
 causes-told n v (command.DropReplication name) asked = in-bucket of_dropping (λ t. refl) (v.bucket name)
@@ -91,6 +109,14 @@ causes-told n v (command.SetHold b key id hold) asked = in-bucket _ (λ t. in-ve
 causes-told n v (command.Receive from number effect) asked = absurd asked
 causes-told n v (command.Settle to number outcome) asked = absurd asked
 causes-told n v (command.Attempt to number) asked = absurd asked
+causes-told n v (command.CreateJob spec manifest) asked = in-bucket (of_job v spec manifest)
+    (λ t. in-token v.region (token_job spec.token v.jobs) _
+    (in-version (of_manifest v.jobs) (λ row. refl) (find_version spec.manifest.key manifest t.rows))) (v.bucket spec.manifest.bucket)
+causes-told n v (command.MoveJob job state) asked = in-job (of_move v.jobs state) (λ j. refl) (find_job job v.jobs)
+causes-told n v (command.SetPriority job priority) asked = in-job of_priority (λ j. refl) (find_job job v.jobs)
+causes-told n v (command.Prepare job) asked = absurd asked
+causes-told n v (command.Line job line) asked = absurd asked
+causes-told n v (command.Finish job body) asked = absurd asked
 
 -- ---- what a plan comes to
 

@@ -43,6 +43,12 @@ licensed n events r (command.SetHold b key id hold) asked = tt
 licensed n events r (command.Receive from number effect) asked = absurd asked
 licensed n events r (command.Settle to number outcome) asked = absurd asked
 licensed n events r (command.Attempt to number) asked = absurd asked
+licensed n events r (command.CreateJob spec manifest) asked = tt
+licensed n events r (command.MoveJob job state) asked = tt
+licensed n events r (command.SetPriority job priority) asked = tt
+licensed n events r (command.Prepare job) asked = absurd asked
+licensed n events r (command.Line job line) asked = absurd asked
+licensed n events r (command.Finish job body) asked = absurd asked
 
 pub known_there : (o : Option History) → IsSome o → o ≡ Some (unwrap_or o [])
 known_there None some = absurd cc

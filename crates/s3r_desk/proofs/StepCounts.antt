@@ -43,6 +43,12 @@ asked_none n v (command.SetHold b key id hold) asked = refl
 asked_none n v (command.Receive from number effect) asked = absurd asked
 asked_none n v (command.Settle to number outcome) asked = absurd asked
 asked_none n v (command.Attempt to number) asked = absurd asked
+asked_none n v (command.CreateJob spec manifest) asked = refl
+asked_none n v (command.MoveJob job state) asked = refl
+asked_none n v (command.SetPriority job priority) asked = refl
+asked_none n v (command.Prepare job) asked = absurd asked
+asked_none n v (command.Line job line) asked = absurd asked
+asked_none n v (command.Finish job body) asked = absurd asked
 
 -- no commit is an attempt
 abbrev NoneTries : ℕ → List Commit → Type 0

@@ -33,6 +33,12 @@ IsLicensed events r (command.Receive from number effect) = (h : History) × (kno
 IsLicensed events r (command.Settle to number outcome) =
     (k : History) × (known events to ≡ Some k) × CameTo number outcome (received (deeds to k) r)
 IsLicensed events r (command.Attempt to number) = Unit {0}
+IsLicensed events r (command.CreateJob spec manifest) = Unit {0}
+IsLicensed events r (command.MoveJob job state) = Unit {0}
+IsLicensed events r (command.SetPriority job priority) = Unit {0}
+IsLicensed events r (command.Prepare job) = Unit {0}
+IsLicensed events r (command.Line job line) = Unit {0}
+IsLicensed events r (command.Finish job body) = Unit {0}
 
 -- A command may begin at region r, one of n: its history is known and accepts it, and the command has what it asks for.
 pub record MayBegin (n : ℕ) (events : Events) (r : ℕ) (c : Command) : Type 0 where

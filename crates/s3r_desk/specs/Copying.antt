@@ -183,6 +183,12 @@ attempt_about v (command.SetHold bucket key id hold) = 0
 attempt_about v (command.Receive from number effect) = 0
 attempt_about v (command.Settle to number outcome) = 0
 attempt_about v (command.Attempt to number) = if to == v then 1 else 0
+attempt_about v (command.CreateJob spec manifest) = 0
+attempt_about v (command.MoveJob job state) = 0
+attempt_about v (command.SetPriority job priority) = 0
+attempt_about v (command.Prepare job) = 0
+attempt_about v (command.Line job line) = 0
+attempt_about v (command.Finish job body) = 0
 
 -- how many attempts about it began
 abbrev pub attempts_about : ℕ → Events → ℕ

@@ -69,6 +69,12 @@ IsWithin past (command.SetHold bucket key id hold) = Unit {0}
 IsWithin past (command.Receive from number effect) = Unit {0}
 IsWithin past (command.Settle to number outcome) = number ≤ sent past to
 IsWithin past (command.Attempt to number) = number ≤ sent past to
+IsWithin past (command.CreateJob spec manifest) = Unit {0}
+IsWithin past (command.MoveJob job state) = Unit {0}
+IsWithin past (command.SetPriority job priority) = Unit {0}
+IsWithin past (command.Prepare job) = Unit {0}
+IsWithin past (command.Line job line) = Unit {0}
+IsWithin past (command.Finish job body) = Unit {0}
 
 not-it : (to number d n k : ℕ) → (to ≡ d → number ≤ k) → k < n → ((to == d) && (number == n)) ≡ false
 not-it to number d n k within lt = go (to == d) refl

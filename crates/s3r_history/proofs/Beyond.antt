@@ -110,7 +110,8 @@ sent-there n h past stamp adds _ one there = refl
 
 -- All that a command sends goes to regions that are there.
 pub sends-there : (n r : ℕ) (h : History) (c : Command) → 1 ≤ n → AreThere n h → all_there n (effects_after r h c) ≡ true
-sends-there n r h c one there = sent-there n h (deeds r h) (next_stamp r (deeds r h)) (deed r h (deeds r h) c).adds c one there
+sends-there n r h c one there =
+    sent-there n h (deeds r h) (next_stamp r (deeds r h)) (deed r h (deeds r h) c).adds (deed r h (deeds r h) c).does one there
 
 -- Nothing goes to others.
 pub none-placed : (n place d : ℕ) (sends : List Sent) → n ≤ d → all_there n sends ≡ true → placed_to place d sends ≡ []

@@ -199,7 +199,7 @@ rows-create r h b name locked = go (bytes_eq name b) refl
         ∙ unwritten b (deed r h (deeds r h) (command.CreateBucket name locked)) (λ k i. refl) (λ k i. refl) (rows (deeds r h) b)
 
 -- a command that writes no row, nor removes one, nor adds one
-rows-same : (r : ℕ) (h : History) (b : Name) (c : Command) → creates b c ≡ false → (deed r h (deeds r h) c).adds ≡ None
+pub rows-same : (r : ℕ) (h : History) (b : Name) (c : Command) → creates b c ≡ false → (deed r h (deeds r h) c).adds ≡ None
     → ((key : Name) (id : VersionId) → removes b key id c ≡ false)
     → ((key : Name) (id : VersionId) → tag_write b key id (deed r h (deeds r h) c) ≡ None)
     → ((key : Name) (id : VersionId) → hold_write b key id (deed r h (deeds r h) c) ≡ None)
@@ -259,11 +259,11 @@ hold_set stamp hold true row = go (is_before row.hold_stamp stamp)
     go false = refl
 hold_set stamp hold false row = refl
 
-abbrev sets_tags : Stamp → List Tag → Name → VersionId → Bool → Entry → Entry
+abbrev pub sets_tags : Stamp → List Tag → Name → VersionId → Bool → Entry → Entry
 sets_tags stamp tags key id t row =
     set_to row (newest_of (cond (t && is_version key id row) (Some (stamp, tags)) None) (row.tags_stamp, row.tags)) (row.hold_stamp, row.hold)
 
-sets_those_tags : (stamp : Stamp) (tags : List Tag) (key : Name) (id : VersionId) (t : Bool) (rs : List Entry)
+pub sets_those_tags : (stamp : Stamp) (tags : List Tag) (key : Name) (id : VersionId) (t : Bool) (rs : List Entry)
     → map (sets_tags stamp tags key id t) rs ≡ cond t (on_version key id (with_tags stamp tags) rs) rs
 sets_those_tags stamp tags key id true [] = refl
 sets_those_tags stamp tags key id true (row ∷ rs) =
@@ -281,11 +281,11 @@ rows-tags r h b bucket key id tags =
     ∙ ap (map (written b (deed r h (deeds r h) c))) (kept-all b c (λ k i. refl) (rows (deeds r h) b))
     ∙ sets_those_tags (next_stamp r (deeds r h)) tags key id (bytes_eq bucket b) (rows (deeds r h) b)
 
-abbrev sets_hold : Stamp → Bool → Name → VersionId → Bool → Entry → Entry
+abbrev pub sets_hold : Stamp → Bool → Name → VersionId → Bool → Entry → Entry
 sets_hold stamp hold key id t row =
     set_to row (row.tags_stamp, row.tags) (newest_of (cond (t && is_version key id row) (Some (stamp, hold)) None) (row.hold_stamp, row.hold))
 
-sets_that_hold : (stamp : Stamp) (hold : Bool) (key : Name) (id : VersionId) (t : Bool) (rs : List Entry)
+pub sets_that_hold : (stamp : Stamp) (hold : Bool) (key : Name) (id : VersionId) (t : Bool) (rs : List Entry)
     → map (sets_hold stamp hold key id t) rs ≡ cond t (on_version key id (with_hold stamp hold) rs) rs
 sets_that_hold stamp hold key id true [] = refl
 sets_that_hold stamp hold key id true (row ∷ rs) =

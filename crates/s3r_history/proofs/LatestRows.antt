@@ -17,9 +17,10 @@ use Rattle.s3r_versions.proofs.Latest.{first-is-latest}
 use Rattle.s3r_history.specs.Words.{Name, History}
 use Rattle.s3r_history.specs.Past.{Entry, Carried, Past, carried_n, clock, n_of}
 use Rattle.s3r_history.specs.Judging.{is_ahead}
-use Rattle.s3r_history.specs.Deeds.{deeds, next_stamp, version, marker}
+use Rattle.s3r_history.specs.Deeds.{deeds, deed, next_stamp, version, marker}
 use Rattle.s3r_history.specs.Rows.{rows, row_at, latest}
 use Rattle.s3r_history.specs.Accepts.{IsLawful}
+use Rattle.s3r_history.proofs.LineSteps.{what_it_does}
 use Rattle.s3r_history.proofs.Versions.{is_old, other_old, length-deeds, all-weaker}
 use Rattle.s3r_history.proofs.HistoryRows.{none-found, rows_old, rows_listed, rows-put, rows-marker, rows-remove}
 
@@ -50,10 +51,17 @@ n_fits r past (command.SetHold bucket key id hold) is = omega arith
 n_fits r past (command.Receive from number effect) is = carried_fits effect is.1
 n_fits r past _ is = omega arith
 
+-- so is that of what it does
+does_fits : (r : ℕ) (h : History) (c : Command) → IsCommand c → n_of (deed r h (deeds r h) c).does (next_stamp r (deeds r h)) ≤ 18446744073709551615
+does_fits r h c is =
+    what_it_does r h (λ (d : Command). n_of d (next_stamp r (deeds r h)) ≤ 18446744073709551615)
+    (record { tags = λ name key row tags at told there. omega arith; hold = λ name key row hold at told there locked. omega arith }) c
+    (n_fits r (deeds r h) c is)
+
 -- the clock of a lawful history never passes 64 bits
 pub clock_fits : (n r : ℕ) (h : History) → IsLawful n r h → clock (deeds r h) ≤ 18446744073709551615
 clock_fits n r [] lawful = omega arith
-clock_fits n r (c ∷ h) lawful = omega (arith, clock_fits n r h lawful.2, n_fits r (deeds r h) c lawful.0)
+clock_fits n r (c ∷ h) lawful = omega (arith, clock_fits n r h lawful.2, does_fits r h c lawful.0)
 
 pub own_ahead : (r k : ℕ) (id : VersionId) → id.region ≡ r → id.index ≡ k + 1 → is_ahead r k id ≡ true
 own_ahead r k id region index = and_from _ _ (eq-eqb id.region r region) (lt-ltb k id.index (omega arith))

@@ -1,9 +1,10 @@
 -- What a lawful history prescribed meets the limits of a record.
-use Rattle.std.proofs.Common.{◌≡◌, ℕ, zero, suc, ◌+◌, ◌<◌, ◌≤◌, ◌^◌, Bool, true, false, cond, ◌==◌, List, [], ◌∷◌, ◌++◌, Option, Some, None, length, refl, subst, arith, eqb-true}
+use Rattle.std.proofs.Common.{◌≡◌, ℕ, zero, suc, ◌+◌, ◌<◌, ◌≤◌, ◌^◌, Bool, true, false, cond, not, ◌==◌, ◌&&◌, nat_le, nat_lt, is_none, List, [], ◌∷◌, ◌++◌, Option, Some, None}
+use Rattle.std.proofs.Common.{map, length, bytes_eq, refl, sym, ap, subst, ◌∙◌, arith, eqb-true, leb-true, ltb-true, le-leb, lt-ltb}
 use Rattle.std.specs.Prelude.{IfSome, option_map, slice_get}
-use Rattle.std.specs.List.{AllByRecursion, filter_map, cons_option}
+use Rattle.std.specs.List.{AllByRecursion, list_all, filter_map, cons_option}
 use Rattle.std.specs.Option.{option_and_then}
-use Rattle.std.proofs.lemmas.Bool.{and_parts}
+use Rattle.std.proofs.lemmas.Bool.{and_parts, and_from}
 use Rattle.s3r_names.specs.declared.stamp.Stamp.{Stamp}
 use Rattle.s3r_names.specs.declared.version.VersionId.{VersionId}
 use Rattle.s3r_names.specs.Version.{IsVersionId}
@@ -12,21 +13,27 @@ use Rattle.s3r_rules.specs.declared.rule.Rule.{Rule}
 use Rattle.s3r_rules.specs.Choice.{choice_put, choice_marker}
 use Rattle.s3r_rules.specs.Destinations.{destinations}
 use Rattle.s3r_versions.specs.Lookup.{id_eq, is_of_key, is_version, find_version}
-use Rattle.s3r_record.specs.Spelling.{IsStamp, EffectMeetsLimits, IsCommand}
+use Rattle.s3r_record.specs.Spelling.{IsStamp, IsEffect, EffectMeetsLimits, IsCommand}
 use Rattle.s3r_record.specs.declared.command.Command.{Command}
 use Rattle.s3r_record.specs.declared.command.Command.TheVariants as command
 use Rattle.s3r_record.specs.declared.effect.Effect.TheVariants as effects
 use Rattle.s3r_history.specs.declared.replication.Replication.{Replication}
 use Rattle.s3r_history.specs.declared.sent.Sent.{Sent}
 use Rattle.s3r_history.specs.Words.{Name, History}
-use Rattle.s3r_history.specs.Past.{Entry, Carried, Past}
+use Rattle.s3r_history.specs.Past.{Entry, Carried, Added, Deed, Past}
+use Rattle.s3r_history.specs.Buckets.{Bucket, bucket, creates}
+use Rattle.s3r_history.specs.Carried.{target_of, key_of, id_of, is_applied}
+use Rattle.s3r_history.specs.Rows.{removes, versions, at_present, rows, row_at}
 use Rattle.s3r_history.specs.Placed.{sends_to, prescribed}
-use Rattle.s3r_history.specs.BucketView.{BucketView, told_by}
-use Rattle.s3r_history.specs.Sending.{region_of, Destination, to_region, to_each, replica_by, replica_to, marker_by, marker_to, is_told, tags_to, hold_to, of_bucket, of_row}
-use Rattle.s3r_history.specs.Deeds.{deeds, next_stamp, version, marker, effects_after}
+use Rattle.s3r_history.specs.BucketView.{BucketView, told_as, told_by}
+use Rattle.s3r_history.specs.Sending.{region_of, Destination, to_region, to_each, replica_by, replica_to, marker_by, marker_to, is_told, tags_to, hold_to, of_bucket, of_row, sends_by}
+use Rattle.s3r_history.specs.Deeds.{deeds, deed, next_stamp, version, marker, first_stamp, brought, judge, effects_after}
+use Rattle.s3r_history.specs.Told.{told}
 use Rattle.s3r_history.specs.Accepts.{IsLawful}
 use Rattle.s3r_history.specs.SentLaws.{SentIsShort}
-use Rattle.s3r_history.proofs.Versions.{length-deeds}
+use Rattle.s3r_history.proofs.LineSteps.{find-all, what_a_line_does}
+use Rattle.s3r_history.proofs.Versions.{length-deeds, all-filter, kept_by, front, versions-step, versions-birth}
+use Rattle.s3r_history.proofs.HistoryRows.{all-in_order, all-map}
 
 abbrev AreShort : List Sent → Type 0
 AreShort sends = AllByRecursion (λ (s : Sent). EffectMeetsLimits s.effect) sends
@@ -155,34 +162,132 @@ marker-row-short stamp key at = record {
   body = omega arith;
 }
 
+-- such an id a version may have
+abbrev has_id : Entry → Bool
+has_id row = nat_le row.id.region 7 && (nat_le 1 row.id.index && nat_lt row.id.index 18446744073709551616)
+
+id-of : (row : Entry) → has_id row ≡ true → IsVersionId row.id
+id-of row has =
+    let parts = and_parts (nat_le row.id.region 7) _ has in
+    let index = and_parts (nat_le 1 row.id.index) _ parts.1 in
+    record { region = leb-true row.id.region 7 parts.0; above = leb-true 1 row.id.index index.0; below = ltb-true row.id.index 18446744073709551616 index.1 }
+
+has-id : (row : Entry) → IsVersionId row.id → has_id row ≡ true
+has-id row is = and_from _ _ (le-leb row.id.region 7 is.region) (and_from _ _ (le-leb 1 row.id.index is.above)
+    (lt-ltb row.id.index 18446744073709551616 is.below))
+
+brought-id : (place s : ℕ) (e : Carried) → EffectMeetsLimits e → IfSome (brought place s e) (λ (a : Added). has_id a.row ≡ true)
+brought-id place s (effects.Replica from to key id n tags tags_stamp hold hold_stamp class body) is =
+    has-id (version (first_stamp id n) key tags hold class body) is.0
+brought-id place s (effects.Marker from to key id n) is = has-id (marker (first_stamp id n) key) is.0
+brought-id place s (effects.Tags from to key id tags stamp) is = tt
+brought-id place s (effects.Hold from to key id hold stamp) is = tt
+
+effect-limits : (e : Carried) → IsEffect e → EffectMeetsLimits e
+effect-limits (effects.Replica from to key id n tags tags_stamp hold hold_stamp class body) is = is.5
+effect-limits (effects.Marker from to key id n) is = is.3
+effect-limits (effects.Tags from to key id tags stamp) is = is.4
+effect-limits (effects.Hold from to key id hold stamp) is = is.3
+
+-- what a command adds has an id
+added-id : (r : ℕ) (h : History) (c : Command) → r ≤ 7 → length h + 1 < 2 ^ 64 → IsCommand c
+    → IfSome (deed r h (deeds r h) c).adds (λ (a : Added). has_id a.row ≡ true)
+added-id r h (command.Put b key tags hold class body) region few fits =
+    has-id (version (next_stamp r (deeds r h)) key tags hold class body)
+    (new-short (next_stamp r (deeds r h)) key tags hold class body (stamp-short r h region few) fits.4).id
+added-id r h (command.Marker b key) region few fits =
+    has-id (marker (next_stamp r (deeds r h)) key) (marker-row-short (next_stamp r (deeds r h)) key (stamp-short r h region few)).id
+added-id r h (command.Receive from number effect) region few fits = go (is_applied (judge r h effect) && is_none there)
+  where
+    there : Option Entry
+    there = row_at (deeds r h) (target_of effect) (key_of effect) (id_of effect)
+
+    go : (t : Bool) → IfSome (cond t (brought (length (deeds r h) + 1) from effect) None) (λ (a : Added). has_id a.row ≡ true)
+    go true = brought-id (length (deeds r h) + 1) from effect (effect-limits effect fits.1)
+    go false = tt
+added-id r h _ region few fits = tt
+
+ids-front : (b : Name) (adds : Option Added) (vs : List Entry) → IfSome adds (λ (a : Added). has_id a.row ≡ true) → list_all has_id vs ≡ true
+    → list_all has_id (front b adds vs) ≡ true
+ids-front b None vs new all = all
+ids-front b (Some a) vs new all = go (bytes_eq a.bucket b)
+  where
+    go : (t : Bool) → list_all has_id (cond t (a.row ∷ vs) vs) ≡ true
+    go true = and_from _ _ new all
+    go false = all
+
+-- Each version of a lawful history has an id.
+ids-are : (n r : ℕ) (h : History) → r ≤ 7 → length h < 2 ^ 64 → IsLawful n r h → (b : Name) → list_all has_id (versions (deeds r h) b) ≡ true
+ids-are n r [] region few lawful b = refl
+ids-are n r (c ∷ h) region few lawful b = go (creates b c) refl (ids-are n r h region (omega (arith, few)) lawful.2 b)
+  where
+    d : Deed
+    d = deed r h (deeds r h) c
+
+    go : (t : Bool) → creates b c ≡ t → list_all has_id (versions (deeds r h) b) ≡ true → list_all has_id (versions (d ∷ deeds r h) b) ≡ true
+    go true begins ih = ap (list_all has_id) (versions-birth b d (deeds r h) begins)
+    go false goes_on ih =
+        ap (list_all has_id) (versions-step b d (deeds r h) goes_on)
+        ∙ ids-front b d.adds (kept_by b c (versions (deeds r h) b)) (added-id r h c region (omega (arith, few)) lawful.0)
+        (all-filter has_id (λ (v : Entry). not (removes b v.key v.id c)) (versions (deeds r h) b) ih)
+
+told-ids : (n r : ℕ) (h : History) → r ≤ 7 → length h < 2 ^ 64 → IsLawful n r h → (b : Name) (at : BucketView) → told r h b ≡ Some at
+    → list_all has_id at.rows ≡ true
+told-ids n r h region few lawful b at is = go (bucket h b) is
+  where
+    all : list_all has_id (rows (deeds r h) b) ≡ true
+    all = all-in_order has_id (map (at_present (deeds r h) b) (versions (deeds r h) b))
+        (all-map has_id (at_present (deeds r h) b) (λ v. refl) (versions (deeds r h) b) ∙ ids-are n r h region few lawful b)
+
+    go : (o : Option Bucket) → option_map (told_as (deeds r h) b) o ≡ Some at → list_all has_id at.rows ≡ true
+    go None is = absurd cc
+    go (Some x) is = let same : told_as (deeds r h) b x ≡ at = cc in sym (ap (λ (t : BucketView). list_all has_id t.rows) same) ∙ all
+
+-- what a write of tags sends, and one of a hold
+tags-sent-short : (r : ℕ) (h : History) (b key : Name) (id : VersionId) (tags : List Tag) → r ≤ 7 → length h + 1 < 2 ^ 64 → IsVersionId id
+    → AreShort (sends_by h (deeds r h) (next_stamp r (deeds r h)) None (command.SetTags b key id tags))
+tags-sent-short r h b key id tags region few has_id =
+    let past = deeds r h in
+    let stamp = next_stamp r past in
+    bucket-short (λ (at : BucketView). of_row (λ (row : Entry). to_each (tags_to past b stamp tags row) at.config) (find_version key id at.rows))
+    (told_by h past b)
+    (λ at. row-short (λ (row : Entry). to_each (tags_to past b stamp tags row) at.config) (find_version key id at.rows) (find-id key id at.rows has_id)
+    (λ row has. to_each-short (tags_to past b stamp tags row) at.config (tags-short past b stamp tags row (stamp-short r h region few) has)))
+
+hold-sent-short : (r : ℕ) (h : History) (b key : Name) (id : VersionId) (hold : Bool) → r ≤ 7 → length h + 1 < 2 ^ 64 → IsVersionId id
+    → AreShort (sends_by h (deeds r h) (next_stamp r (deeds r h)) None (command.SetHold b key id hold))
+hold-sent-short r h b key id hold region few has_id =
+    let past = deeds r h in
+    let stamp = next_stamp r past in
+    bucket-short (λ (at : BucketView). of_row (λ (row : Entry). to_each (hold_to past b stamp hold row) at.config) (find_version key id at.rows))
+    (told_by h past b)
+    (λ at. row-short (λ (row : Entry). to_each (hold_to past b stamp hold row) at.config) (find_version key id at.rows) (find-id key id at.rows has_id)
+    (λ row has. to_each-short (hold_to past b stamp hold row) at.config (hold-short past b stamp hold row (stamp-short r h region few) has)))
+
 -- All that a command sends is short.
-sends-short : (r : ℕ) (h : History) (c : Command) → r ≤ 7 → length h + 1 < 2 ^ 64 → IsCommand c → AreShort (effects_after r h c)
-sends-short r h (command.Put b key tags hold class body) region few fits =
+sends-short : (n r : ℕ) (h : History) (c : Command) → r ≤ 7 → length h + 1 < 2 ^ 64 → IsLawful n r h → IsCommand c → AreShort (effects_after r h c)
+sends-short n r h (command.Put b key tags hold class body) region few lawful fits =
     let stamp = next_stamp r (deeds r h) in
     let row = version stamp key tags hold class body in
     bucket-short (λ (at : BucketView). to_each (replica_to b row) at.config) (told_by h (deeds r h) b)
     (λ at. to_each-short (replica_to b row) at.config
     (replica-short b row (new-short stamp key tags hold class body (stamp-short r h region few) fits.4)))
-sends-short r h (command.Marker b key) region few fits =
+sends-short n r h (command.Marker b key) region few lawful fits =
     let stamp = next_stamp r (deeds r h) in
     bucket-short (λ (at : BucketView). to_each (marker_to b (marker stamp key)) at.config) (told_by h (deeds r h) b)
     (λ at. to_each-short (marker_to b (marker stamp key)) at.config
     (marker-short b (marker stamp key) (marker-row-short stamp key (stamp-short r h region few))))
-sends-short r h (command.SetTags b key id tags) region few fits =
-    let past = deeds r h in
-    let stamp = next_stamp r past in
-    bucket-short (λ (at : BucketView). of_row (λ (row : Entry). to_each (tags_to past b stamp tags row) at.config) (find_version key id at.rows))
-    (told_by h past b)
-    (λ at. row-short (λ (row : Entry). to_each (tags_to past b stamp tags row) at.config) (find_version key id at.rows) (find-id key id at.rows fits.2)
-    (λ row has. to_each-short (tags_to past b stamp tags row) at.config (tags-short past b stamp tags row (stamp-short r h region few) has)))
-sends-short r h (command.SetHold b key id hold) region few fits =
-    let past = deeds r h in
-    let stamp = next_stamp r past in
-    bucket-short (λ (at : BucketView). of_row (λ (row : Entry). to_each (hold_to past b stamp hold row) at.config) (find_version key id at.rows))
-    (told_by h past b)
-    (λ at. row-short (λ (row : Entry). to_each (hold_to past b stamp hold row) at.config) (find_version key id at.rows) (find-id key id at.rows fits.2)
-    (λ row has. to_each-short (hold_to past b stamp hold row) at.config (hold-short past b stamp hold row (stamp-short r h region few) has)))
-sends-short r h _ region few fits = tt
+sends-short n r h (command.SetTags b key id tags) region few lawful fits = tags-sent-short r h b key id tags region few fits.2
+sends-short n r h (command.SetHold b key id hold) region few lawful fits = hold-sent-short r h b key id hold region few fits.2
+sends-short n r h (command.Line job line) region few lawful fits =
+    what_a_line_does r h (λ (c : Command). AreShort (sends_by h (deeds r h) (next_stamp r (deeds r h)) None c)) job line
+    (record {
+      tags = λ name key row tags at is there. tags-sent-short r h name key row.id tags region few
+          (id-of row (find-all (is_version key row.id) has_id at.rows row (told-ids n r h region (omega (arith, few)) lawful name at is) there.found));
+      hold = λ name key row hold at is there locked. hold-sent-short r h name key row.id hold region few
+          (id-of row (find-all (is_version key row.id) has_id at.rows row (told-ids n r h region (omega (arith, few)) lawful name at is) there.found));
+    }) tt
+sends-short n r h _ region few lawful fits = tt
 
 -- ---- all that was prescribed
 
@@ -210,7 +315,7 @@ prescribed-short n r [] region few lawful d = tt
 prescribed-short n r (c ∷ h) region few lawful d =
     all-append EffectMeetsLimits (prescribed (deeds r h) d) (sends_to d (effects_after r h c))
     (prescribed-short n r h region (omega (arith, few)) lawful.2 d)
-    (to-short d (effects_after r h c) (sends-short r h c region (omega (arith, few)) lawful.0))
+    (to-short d (effects_after r h c) (sends-short n r h c region (omega (arith, few)) lawful.2 lawful.0))
 
 pub sent_short : SentIsShort
 sent_short n r h region few lawful d i e is =

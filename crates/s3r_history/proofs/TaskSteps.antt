@@ -28,6 +28,12 @@ tries_to d (command.SetHold bucket key id hold) = false
 tries_to d (command.Receive from number effect) = false
 tries_to d (command.Settle to number outcome) = false
 tries_to d (command.Attempt to number) = to == d
+tries_to d (command.CreateJob spec manifest) = false
+tries_to d (command.MoveJob job state) = false
+tries_to d (command.SetPriority job priority) = false
+tries_to d (command.Prepare job) = false
+tries_to d (command.Line job line) = false
+tries_to d (command.Finish job body) = false
 
 task_eq : {E : Type 0} (e : E) (o p : Option Outcome) (j k : ℕ) → o ≡ p → j ≡ k
     → ◌≡◌ {A = Task E} (record { effect = e; outcome = o; attempts = j }) (record { effect = e; outcome = p; attempts = k })

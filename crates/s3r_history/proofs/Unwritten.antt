@@ -26,13 +26,14 @@ use Rattle.s3r_history.specs.Buckets.{Bucket, bucket, creates}
 use Rattle.s3r_history.specs.Past.{Entry, Carried, Added, Deed, Past, clock}
 use Rattle.s3r_history.specs.Carried.{target_of, key_of, id_of, is_change, has_hold, is_applied}
 use Rattle.s3r_history.specs.Rows.{names_it, removes, removed_id, with_removed, ids_removed, adds_it, tags_brought, hold_brought, tag_write, hold_write}
-use Rattle.s3r_history.specs.Rows.{life, rows, row_at, removed}
+use Rattle.s3r_history.specs.Rows.{life, rows, row_at, removed, tags_changed, hold_changed}
 use Rattle.s3r_history.specs.BucketView.{BucketView, told_as}
 use Rattle.s3r_history.specs.Judging.{is_ahead, judged, first_of_reasons}
 use Rattle.s3r_history.specs.Deeds.{deeds, deed, next_stamp, brought, judge}
 use Rattle.s3r_history.specs.Told.{told}
-use Rattle.s3r_history.specs.Writes.{tags_received, hold_received, tags_by, hold_by, tags_written, hold_written}
+use Rattle.s3r_history.specs.Writes.{tags_received, hold_received, tags_given, hold_given, tags_by, hold_by, tags_written, hold_written}
 use Rattle.s3r_history.specs.Accepts.{Cause, first_of_causes, in_bucket, in_version, of_a_marker, of_tags, of_hold, refusal, IsLawful}
+use Rattle.s3r_history.proofs.LineSteps.{IsThere, told-rows, what_a_line_does}
 use Rattle.s3r_history.proofs.Versions.{all-weaker, kept_by, is_old, other_old, length-deeds, ahead-less, id-same, all-with_row, all-unmapped, none-there, new-deed}
 use Rattle.s3r_history.proofs.Present.{written}
 use Rattle.s3r_history.proofs.HistoryRows.{none-found, rows_old, added, rows-step}
@@ -65,6 +66,10 @@ tags_given_as_changed r h (command.Put name key tags hold class body) b k i othe
 tags_given_as_changed r h (command.Marker name key) b k i other = ap (λ t. cond t (Some (next_stamp r (deeds r h), [])) None) other
 tags_given_as_changed r h (command.Receive from number effect) b k i other =
     ap (λ o. cond (is_applied (judge r h effect)) o None) (received_tags b k i (done r h (command.Receive from number effect)).adds effect other)
+tags_given_as_changed r h (command.Line job line) b k i other =
+    let d = done r h (command.Line job line) in
+    what_a_line_does r h (λ (c : Command). tags_given b k i d.stamp d.outcome None c ≡ tags_changed b k i d.stamp d.outcome c) job line
+    (record { tags = λ name key row tags at told there. refl; hold = λ name key row hold at told there locked. refl }) refl
 tags_given_as_changed r h _ b k i other = refl
 
 pub hold_given_as_changed : (r : ℕ) (h : History) (c : Command) (b k : Name) (i : VersionId) → adds_it b k i (done r h c).adds ≡ false
@@ -73,6 +78,10 @@ hold_given_as_changed r h (command.Put name key tags hold class body) b k i othe
 hold_given_as_changed r h (command.Marker name key) b k i other = ap (λ t. cond t (Some (next_stamp r (deeds r h), false)) None) other
 hold_given_as_changed r h (command.Receive from number effect) b k i other =
     ap (λ o. cond (is_applied (judge r h effect)) o None) (received_hold b k i (done r h (command.Receive from number effect)).adds effect other)
+hold_given_as_changed r h (command.Line job line) b k i other =
+    let d = done r h (command.Line job line) in
+    what_a_line_does r h (λ (c : Command). hold_given b k i d.stamp d.outcome None c ≡ hold_changed b k i d.stamp d.outcome c) job line
+    (record { tags = λ name key row tags at told there. refl; hold = λ name key row hold at told there locked. refl }) refl
 hold_given_as_changed r h _ b k i other = refl
 
 -- ---- what is changed is there
@@ -186,6 +195,15 @@ replica_unless r h b k i from number e x brings ok none other =
     true≢false (sym same ∙ sym (brings place from) ∙ sym (ap (adds_it b k i) (replica_adds place from (brought place from e) (is_applied (judge r h e))
     (row_at (deeds r h) (target_of e) (key_of e) (id_of e)) there ok)) ∙ other))
 
+-- a line changes a row that is there
+line_unless : {X : Type 0} (r : ℕ) (h : History) (b k : Name) (i : VersionId) (name key : Name) (row : Entry) (x : X) (at : BucketView)
+    → told r h name ≡ Some at → IsThere at key row → row_at (deeds r h) b k i ≡ None → cond (names_it name key row.id b k i) (Some x) None ≡ None
+line_unless r h b k i name key row x at is there none =
+    unless (names_it name key row.id b k i) x (λ same.
+    let missing : Some row ≡ None =
+    sym there.found ∙ ap (find_version key row.id) (told-rows r h name at is) ∙ none_named r h b k i name key row.id same none in
+    cc)
+
 -- Of a version that isn't there and isn't added nothing is changed by a command that is accepted.
 none_tagged : (n r : ℕ) (h : History) (c : Command) (b k : Name) (i : VersionId) → refusal n r h c ≡ None → row_at (deeds r h) b k i ≡ None
     → adds_it b k i (done r h c).adds ≡ false → tag_write b k i (done r h c) ≡ None
@@ -203,6 +221,13 @@ none_tagged n r h (command.Receive from number effect) b k i accepted none other
     one (effects.Tags s t key id tags stamp) ok other =
         change_unless r h b k i (effects.Tags s t key id tags stamp) (stamp, tags) refl ok none
     one (effects.Hold s t key id hold stamp) ok other = refl
+none_tagged n r h (command.Line job line) b k i accepted none other =
+    let d = done r h (command.Line job line) in
+    what_a_line_does r h (λ (c : Command). tags_changed b k i d.stamp d.outcome c ≡ None) job line
+    (record {
+      tags = λ name key row tags at is there. line_unless r h b k i name key row (d.stamp, tags) at is there none;
+      hold = λ name key row hold at is there locked. refl;
+    }) refl
 none_tagged n r h _ b k i accepted none other = refl
 
 none_held : (n r : ℕ) (h : History) (c : Command) (b k : Name) (i : VersionId) → refusal n r h c ≡ None → row_at (deeds r h) b k i ≡ None
@@ -222,6 +247,13 @@ none_held n r h (command.Receive from number effect) b k i accepted none other =
     one (effects.Tags s t key id tags stamp) ok other = refl
     one (effects.Hold s t key id hold stamp) ok other =
         change_unless r h b k i (effects.Hold s t key id hold stamp) (stamp, hold) refl ok none
+none_held n r h (command.Line job line) b k i accepted none other =
+    let d = done r h (command.Line job line) in
+    what_a_line_does r h (λ (c : Command). hold_changed b k i d.stamp d.outcome c ≡ None) job line
+    (record {
+      tags = λ name key row tags at is there. refl;
+      hold = λ name key row hold at is there locked. line_unless r h b k i name key row (d.stamp, hold) at is there none;
+    }) refl
 none_held n r h _ b k i accepted none other = refl
 
 -- nothing is written of a version

@@ -161,7 +161,7 @@ brought-old r k m p s (effects.Hold from to key id hold stamp) given le = tt
 -- what a deed adds is of a command that is there then
 pub new-deed : (r : ℕ) (h : History) (c : Command)
     → IfSome (deed r h (deeds r h) c).adds (λ (a : Added). is_old r (suc (length (deeds r h)))
-    (max (n_of c (next_stamp r (deeds r h))) (clock (deeds r h))) a.row ≡ true)
+    (max (n_of (deed r h (deeds r h) c).does (next_stamp r (deeds r h))) (clock (deeds r h))) a.row ≡ true)
 new-deed r h (command.Put b key tags hold class body) =
     let past = deeds r h in
     let stamp = next_stamp r past in
@@ -211,18 +211,19 @@ all_old r (c ∷ h) b = go (creates b c) refl (all_old r h b)
     past = deeds r h
 
     old : Entry → Bool
-    old = is_old r (suc (length (deeds r h))) (max (n_of c (next_stamp r (deeds r h))) (clock (deeds r h)))
+    old = is_old r (suc (length (deeds r h))) (max (n_of (deed r h past c).does (next_stamp r (deeds r h))) (clock (deeds r h)))
 
     go : (t : Bool) → creates b c ≡ t → list_all (is_old r (length (deeds r h)) (clock (deeds r h))) (versions past b) ≡ true
         → list_all old (versions (deed r h past c ∷ past) b) ≡ true
     go true begins ih = ap (list_all old) (versions-birth b (deed r h past c) past begins)
     go false goes_on ih =
         ap (list_all old) (versions-step b (deed r h past c) past goes_on)
-        ∙ old-front r (suc (length (deeds r h))) (max (n_of c (next_stamp r (deeds r h))) (clock (deeds r h))) b (deed r h past c).adds
+        ∙ old-front r (suc (length (deeds r h))) (max (n_of (deed r h past c).does (next_stamp r (deeds r h))) (clock (deeds r h))) b (deed r h past c).adds
         (kept_by b c (versions past b)) (new-deed r h c)
         (all-filter old (λ (v : Entry). not (removes b v.key v.id c)) (versions past b)
         (all-weaker (is_old r (length (deeds r h)) (clock (deeds r h))) old
-        (λ v. old-more r (length (deeds r h)) (suc (length (deeds r h))) (clock (deeds r h)) (max (n_of c (next_stamp r (deeds r h))) (clock (deeds r h))) v
+        (λ v. old-more r (length (deeds r h)) (suc (length (deeds r h))) (clock (deeds r h))
+        (max (n_of (deed r h past c).does (next_stamp r (deeds r h))) (clock (deeds r h))) v
         (omega arith) (omega arith)) (versions past b) ih))
 
 -- ---- each version stands once

@@ -29,6 +29,7 @@ use Rattle.s3r_history.specs.Told.{told}
 use Rattle.s3r_history.specs.Writes.{id_under, tags_given, hold_given, tags_by, hold_by, tags_written, hold_written, IsFirstGreatest}
 use Rattle.s3r_history.specs.Accepts.{IsLawful}
 use Rattle.s3r_history.specs.Laws.{RowsAreWritten, PutRowsAreWritten}
+use Rattle.s3r_history.proofs.LineSteps.{adds-does}
 use Rattle.s3r_history.proofs.Versions.{all-filter, some_of, kept_by, front, versions-step, versions-birth, length-deeds, IsUnknown, unknown, own-ahead}
 use Rattle.s3r_history.proofs.Present.{adds-itself, others}
 use Rattle.s3r_history.proofs.HistoryRows.{none-found, all-in_order, all-map}
@@ -137,10 +138,10 @@ written_new : (r : ℕ) (h : History) (c : Command) (ws : Past) (b : Name) (a : 
 written_new r h c ws b a is same none = record {
   tags = first_written (tags_by b a.row.key a.row.id d) (a.row.tags_stamp, a.row.tags) (tags_written ws b a.row.key a.row.id)
       (cons_option (tag_write b a.row.key a.row.id d) (tags_since (deeds r h) b a.row)) (adds_it b a.row.key a.row.id d.adds)
-      (ap (λ adds. tags_given b a.row.key a.row.id d.stamp d.outcome adds c) is ∙ first.tags) none.tags it;
+      (ap₂ (λ adds does. tags_given b a.row.key a.row.id d.stamp d.outcome adds does) is (adds-does r h c a is) ∙ first.tags) none.tags it;
   hold = first_written (hold_by b a.row.key a.row.id d) (a.row.hold_stamp, a.row.hold) (hold_written ws b a.row.key a.row.id)
       (cons_option (hold_write b a.row.key a.row.id d) (hold_since (deeds r h) b a.row)) (adds_it b a.row.key a.row.id d.adds)
-      (ap (λ adds. hold_given b a.row.key a.row.id d.stamp d.outcome adds c) is ∙ first.hold) none.hold it;
+      (ap₂ (λ adds does. hold_given b a.row.key a.row.id d.stamp d.outcome adds does) is (adds-does r h c a is) ∙ first.hold) none.hold it;
 }
   where
     d : Deed

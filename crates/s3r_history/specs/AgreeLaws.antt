@@ -27,6 +27,12 @@ settles_to d (command.SetHold bucket key id hold) = false
 settles_to d (command.Receive from number effect) = false
 settles_to d (command.Settle to number outcome) = to == d
 settles_to d (command.Attempt to number) = false
+settles_to d (command.CreateJob spec manifest) = false
+settles_to d (command.MoveJob job state) = false
+settles_to d (command.SetPriority job priority) = false
+settles_to d (command.Prepare job) = false
+settles_to d (command.Line job line) = false
+settles_to d (command.Finish job body) = false
 
 -- the command receives an effect from the region
 abbrev pub receives_from : ℕ → Command → Bool
@@ -43,6 +49,12 @@ receives_from s (command.SetHold bucket key id hold) = false
 receives_from s (command.Receive from number effect) = from == s
 receives_from s (command.Settle to number outcome) = false
 receives_from s (command.Attempt to number) = false
+receives_from s (command.CreateJob spec manifest) = false
+receives_from s (command.MoveJob job state) = false
+receives_from s (command.SetPriority job priority) = false
+receives_from s (command.Prepare job) = false
+receives_from s (command.Line job line) = false
+receives_from s (command.Finish job body) = false
 
 -- They still agree after one command more at the sender that settles no task to the receiver,
 abbrev pub StaysAtSender : Type 0

@@ -14,6 +14,7 @@ use Rattle.s3r_history.specs.Past.{Entry, Carried, Added, Deed, Past, clock}
 use Rattle.s3r_history.specs.Carried.{target_of, key_of, id_of, is_applied}
 use Rattle.s3r_history.specs.Rows.{row_at}
 use Rattle.s3r_history.specs.Judging.{judge_by}
+use Rattle.s3r_history.specs.JobLines.{read_by, outcome_of_line, does_by, result_by}
 use Rattle.s3r_history.specs.Sending.{sends_by}
 
 -- the stamp of the command that comes next, where it writes; the greatest n is that of the clock's 64 bits
@@ -80,6 +81,12 @@ outcome_by r h past (command.SetHold bucket key id hold) = outcomes.Applied
 outcome_by r h past (command.Receive from number effect) = judge_by r h past effect
 outcome_by r h past (command.Settle to number outcome) = outcomes.Applied
 outcome_by r h past (command.Attempt to number) = outcomes.Applied
+outcome_by r h past (command.CreateJob spec manifest) = outcomes.Applied
+outcome_by r h past (command.MoveJob job state) = outcomes.Applied
+outcome_by r h past (command.SetPriority job priority) = outcomes.Applied
+outcome_by r h past (command.Prepare job) = outcomes.Applied
+outcome_by r h past (command.Line job line) = outcomes.Applied
+outcome_by r h past (command.Finish job body) = outcomes.Applied
 
 -- the version that a command adds; a received effect came to that
 abbrev pub added_by : Past → Stamp → Outcome → Command → Option Added
@@ -97,6 +104,12 @@ added_by past stamp came_to (command.Receive from number effect) =
     if is_applied came_to && is_none (row_at past (target_of effect) (key_of effect) (id_of effect)) then brought stamp.index from effect else None
 added_by past stamp came_to (command.Settle to number outcome) = None
 added_by past stamp came_to (command.Attempt to number) = None
+added_by past stamp came_to (command.CreateJob spec manifest) = None
+added_by past stamp came_to (command.MoveJob job state) = None
+added_by past stamp came_to (command.SetPriority job priority) = None
+added_by past stamp came_to (command.Prepare job) = None
+added_by past stamp came_to (command.Line job line) = None
+added_by past stamp came_to (command.Finish job body) = None
 
 -- what a command does after the commands h, which did this
 abbrev pub deed : ℕ → History → Past → Command → Deed
@@ -104,7 +117,18 @@ deed r h past c =
     let stamp = next_stamp r past in
     let outcome = outcome_by r h past c in
     let adds = added_by past stamp outcome c in
-    record { command = c; stamp = stamp; outcome = outcome; adds = adds; sends = sends_by h past stamp adds c }
+    let line = outcome_of_line h past c in
+    let does = does_by c line in
+    record {
+      command = c;
+      does = does;
+      stamp = stamp;
+      outcome = outcome;
+      adds = adds;
+      sends = sends_by h past stamp adds does;
+      read = read_by h past c;
+      result = result_by line;
+    }
 
 -- what the commands of region r's history did
 abbrev pub deeds : ℕ → History → Past

@@ -5,6 +5,9 @@ pub mod Carried
 pub mod Rows
 pub mod Placed
 pub mod BucketView
+pub mod Jobs
+pub mod JobLines
+pub mod JobSteps
 pub mod Judging
 pub mod Sending
 pub mod Deeds

@@ -1,7 +1,10 @@
 -- What commands did.
-use Rattle.std.specs.Prelude.{ℕ, max, List, [], ◌∷◌, Option}
+use Rattle.std.specs.Prelude.{ℕ, max, List, [], ◌∷◌, Option, Result}
 use Rattle.s3r_names.specs.declared.outcome.Outcome.{Outcome}
 use Rattle.s3r_names.specs.declared.stamp.Stamp.{Stamp}
+use Rattle.s3r_lines.specs.declared.object.ObjectRef.{ObjectRef}
+use Rattle.s3r_jobs.specs.declared.result.FailureReason.{FailureReason}
+use Rattle.s3r_jobs.specs.declared.result.LineResult.{LineResult}
 use Rattle.s3r_versions.specs.declared.row.Row.{Row}
 use Rattle.s3r_record.specs.declared.command.Command.{Command}
 use Rattle.s3r_record.specs.declared.command.Command.TheVariants as command
@@ -23,14 +26,22 @@ pub record Added : Type 0 where
   pub bucket : Name
   pub row : Entry
 
--- What a command did: its stamp where it writes, what its effect came to where it received one (of another command
--- Applied), what it added, and what it prescribed. Each is decided by the deeds before it.
+-- a manifest as a job read it: its lines, or why it has none
+abbrev pub ReadLines : Type 0
+ReadLines = Result (List ObjectRef) FailureReason
+
+-- What a command did: the command that does the same, which is itself but for a line that succeeds, its stamp where it writes,
+-- what its effect came to where it received one (of another command Applied), what it added, what it prescribed, the manifest that
+-- it read, and the result of the line that it did. Each is decided by the deeds before it.
 pub record Deed : Type 0 where
   pub command : Command
+  pub does : Command
   pub stamp : Stamp
   pub outcome : Outcome
   pub adds : Option Added
   pub sends : List Sent
+  pub read : Option ReadLines
+  pub result : Option LineResult
 
 -- what the commands of a history did, the newest first
 abbrev pub Past : Type 0
@@ -59,8 +70,14 @@ n_of (command.SetHold bucket key id hold) stamp = stamp.n
 n_of (command.Receive from number effect) stamp = carried_n effect
 n_of (command.Settle to number outcome) stamp = 0
 n_of (command.Attempt to number) stamp = 0
+n_of (command.CreateJob spec manifest) stamp = 0
+n_of (command.MoveJob job state) stamp = 0
+n_of (command.SetPriority job priority) stamp = 0
+n_of (command.Prepare job) stamp = 0
+n_of (command.Line job line) stamp = 0
+n_of (command.Finish job body) stamp = 0
 
 -- the greatest n that the commands have or carry, 0 where there are none
 abbrev pub clock : Past → ℕ
 clock [] = 0
-clock (d ∷ past) = max (n_of d.command d.stamp) (clock past)
+clock (d ∷ past) = max (n_of d.does d.stamp) (clock past)

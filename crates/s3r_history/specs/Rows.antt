@@ -38,6 +38,12 @@ removes b k i (command.SetHold bucket key id hold) = false
 removes b k i (command.Receive from number effect) = false
 removes b k i (command.Settle to number outcome) = false
 removes b k i (command.Attempt to number) = false
+removes b k i (command.CreateJob spec manifest) = false
+removes b k i (command.MoveJob job state) = false
+removes b k i (command.SetPriority job priority) = false
+removes b k i (command.Prepare job) = false
+removes b k i (command.Line job line) = false
+removes b k i (command.Finish job body) = false
 
 -- what is added to the bucket, and not removed later
 abbrev pub added_to : Name → List Command → Option Added → List Entry
@@ -92,6 +98,12 @@ tags_changed b k i stamp came_to (command.SetHold bucket key id hold) = None
 tags_changed b k i stamp came_to (command.Receive from number effect) = if is_applied came_to then tags_brought b k i effect else None
 tags_changed b k i stamp came_to (command.Settle to number outcome) = None
 tags_changed b k i stamp came_to (command.Attempt to number) = None
+tags_changed b k i stamp came_to (command.CreateJob spec manifest) = None
+tags_changed b k i stamp came_to (command.MoveJob job state) = None
+tags_changed b k i stamp came_to (command.SetPriority job priority) = None
+tags_changed b k i stamp came_to (command.Prepare job) = None
+tags_changed b k i stamp came_to (command.Line job line) = None
+tags_changed b k i stamp came_to (command.Finish job body) = None
 
 abbrev pub hold_changed : Name → Name → VersionId → Stamp → Outcome → Command → Option (Stamp × Bool)
 hold_changed b k i stamp came_to (command.CreateBucket name locked) = None
@@ -107,13 +119,19 @@ hold_changed b k i stamp came_to (command.SetHold bucket key id hold) = if names
 hold_changed b k i stamp came_to (command.Receive from number effect) = if is_applied came_to then hold_brought b k i effect else None
 hold_changed b k i stamp came_to (command.Settle to number outcome) = None
 hold_changed b k i stamp came_to (command.Attempt to number) = None
+hold_changed b k i stamp came_to (command.CreateJob spec manifest) = None
+hold_changed b k i stamp came_to (command.MoveJob job state) = None
+hold_changed b k i stamp came_to (command.SetPriority job priority) = None
+hold_changed b k i stamp came_to (command.Prepare job) = None
+hold_changed b k i stamp came_to (command.Line job line) = None
+hold_changed b k i stamp came_to (command.Finish job body) = None
 
 -- what a deed writes about the tags of a version that is there, and about its hold
 abbrev pub tag_write : Name → Name → VersionId → Deed → Option (Stamp × List Tag)
-tag_write b k i d = tags_changed b k i d.stamp d.outcome d.command
+tag_write b k i d = tags_changed b k i d.stamp d.outcome d.does
 
 abbrev pub hold_write : Name → Name → VersionId → Deed → Option (Stamp × Bool)
-hold_write b k i d = hold_changed b k i d.stamp d.outcome d.command
+hold_write b k i d = hold_changed b k i d.stamp d.outcome d.does
 
 -- what was written about a version since the deed that added it, the newest first
 abbrev pub writes : {X : Type 0} → (Deed → Option X) → (Option Added → Bool) → Past → List X
@@ -171,6 +189,12 @@ removed_id b (command.SetHold bucket key id hold) = None
 removed_id b (command.Receive from number effect) = None
 removed_id b (command.Settle to number outcome) = None
 removed_id b (command.Attempt to number) = None
+removed_id b (command.CreateJob spec manifest) = None
+removed_id b (command.MoveJob job state) = None
+removed_id b (command.SetPriority job priority) = None
+removed_id b (command.Prepare job) = None
+removed_id b (command.Line job line) = None
+removed_id b (command.Finish job body) = None
 
 abbrev pub with_removed : Option VersionId → List VersionId → List VersionId
 with_removed None ids = ids

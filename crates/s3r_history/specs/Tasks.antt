@@ -31,6 +31,12 @@ settlement d n place (command.SetHold bucket key id hold) = None
 settlement d n place (command.Receive from number effect) = None
 settlement d n place (command.Settle to number outcome) = if (to == d) && (number == n) then Some outcome else None
 settlement d n place (command.Attempt to number) = None
+settlement d n place (command.CreateJob spec manifest) = None
+settlement d n place (command.MoveJob job state) = None
+settlement d n place (command.SetPriority job priority) = None
+settlement d n place (command.Prepare job) = None
+settlement d n place (command.Line job line) = None
+settlement d n place (command.Finish job body) = None
 
 -- what the task came to, by the last command that settles it
 abbrev pub settled_with : History → ℕ → ℕ → Option Outcome
@@ -52,6 +58,12 @@ attempts (command.SetHold bucket key id hold ∷ h) d n = attempts h d n
 attempts (command.Receive from number effect ∷ h) d n = attempts h d n
 attempts (command.Settle to number outcome ∷ h) d n = attempts h d n
 attempts (command.Attempt to number ∷ h) d n = if (to == d) && (number == n) then suc (attempts h d n) else attempts h d n
+attempts (command.CreateJob spec manifest ∷ h) d n = attempts h d n
+attempts (command.MoveJob job state ∷ h) d n = attempts h d n
+attempts (command.SetPriority job priority ∷ h) d n = attempts h d n
+attempts (command.Prepare job ∷ h) d n = attempts h d n
+attempts (command.Line job line ∷ h) d n = attempts h d n
+attempts (command.Finish job body ∷ h) d n = attempts h d n
 
 abbrev pub task_state : History → ℕ → ℕ → TaskState
 task_state h d n = state_by (settled_with h d n) (attempts h d n)
@@ -101,6 +113,12 @@ receipt s came_to (command.Receive from number effect) =
     if from == s then record { number = number; effect = effect; outcome = came_to } ∷ [] else []
 receipt s came_to (command.Settle to number outcome) = []
 receipt s came_to (command.Attempt to number) = []
+receipt s came_to (command.CreateJob spec manifest) = []
+receipt s came_to (command.MoveJob job state) = []
+receipt s came_to (command.SetPriority job priority) = []
+receipt s came_to (command.Prepare job) = []
+receipt s came_to (command.Line job line) = []
+receipt s came_to (command.Finish job body) = []
 
 -- what was received from a region, the newest first
 abbrev pub received : Past → ℕ → List Received

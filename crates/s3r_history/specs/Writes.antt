@@ -53,6 +53,12 @@ tags_given b k i stamp came_to adds (command.SetHold bucket key id hold) = None
 tags_given b k i stamp came_to adds (command.Receive from number effect) = if is_applied came_to then tags_received b k i adds effect else None
 tags_given b k i stamp came_to adds (command.Settle to number outcome) = None
 tags_given b k i stamp came_to adds (command.Attempt to number) = None
+tags_given b k i stamp came_to adds (command.CreateJob spec manifest) = None
+tags_given b k i stamp came_to adds (command.MoveJob job state) = None
+tags_given b k i stamp came_to adds (command.SetPriority job priority) = None
+tags_given b k i stamp came_to adds (command.Prepare job) = None
+tags_given b k i stamp came_to adds (command.Line job line) = None
+tags_given b k i stamp came_to adds (command.Finish job body) = None
 
 -- its hold: as it is put, off for a marker, as it is set, and that of a received effect that is applied
 abbrev pub hold_given : Name → Name → VersionId → Stamp → Outcome → Option Added → Command → Option (Stamp × Bool)
@@ -70,12 +76,18 @@ hold_given b k i stamp came_to adds (command.SetHold bucket key id hold) = if na
 hold_given b k i stamp came_to adds (command.Receive from number effect) = if is_applied came_to then hold_received b k i adds effect else None
 hold_given b k i stamp came_to adds (command.Settle to number outcome) = None
 hold_given b k i stamp came_to adds (command.Attempt to number) = None
+hold_given b k i stamp came_to adds (command.CreateJob spec manifest) = None
+hold_given b k i stamp came_to adds (command.MoveJob job state) = None
+hold_given b k i stamp came_to adds (command.SetPriority job priority) = None
+hold_given b k i stamp came_to adds (command.Prepare job) = None
+hold_given b k i stamp came_to adds (command.Line job line) = None
+hold_given b k i stamp came_to adds (command.Finish job body) = None
 
 abbrev pub tags_by : Name → Name → VersionId → Deed → Option (Stamp × List Tag)
-tags_by b k i d = tags_given b k i d.stamp d.outcome d.adds d.command
+tags_by b k i d = tags_given b k i d.stamp d.outcome d.adds d.does
 
 abbrev pub hold_by : Name → Name → VersionId → Deed → Option (Stamp × Bool)
-hold_by b k i d = hold_given b k i d.stamp d.outcome d.adds d.command
+hold_by b k i d = hold_given b k i d.stamp d.outcome d.adds d.does
 
 -- all that these deeds wrote of its tags, and of its hold, the newest first
 abbrev pub tags_written : Past → Name → Name → VersionId → List (Stamp × List Tag)

@@ -2,12 +2,14 @@
 //! commands it accepts.
 #![tactic(auto)]
 
+mod creation;
 mod due;
 mod laws;
 mod refusal;
 mod replication;
 mod sent;
 
+pub use creation::Creation;
 pub use due::Due;
 pub use laws::{
     agreeing_is_within, agreement_is_kept, buckets_are_counted, rows_are_listed, sent_is_short,

@@ -1,9 +1,11 @@
 //! Why a command is refused.
 
+use s3r_jobs::{JobState, Wanted};
+use s3r_names::VersionId;
 use s3r_rules::Kind;
 
-/// Why a command, or the request that asks for it, is refused. No command is refused for `NoSuchKey`, `InvalidLocation`,
-/// `InvalidArgument` and `InvalidRequest`: they are a desk's answers. No desk answers `NoSuchRegion`, `NotNext` or
+/// Why a command, or the request that asks for it, is refused. No command is refused for `NoSuchKey`, `InvalidLocation` and
+/// `InvalidArgument`: they are a desk's answers. No desk answers `NoSuchRegion`, `NotNext` or
 /// `NotFirst`: they never leave it.
 #[derive(Clone, Copy, Debug, PartialEq, Eq)]
 pub enum Refusal {
@@ -33,8 +35,16 @@ pub enum Refusal {
     InvalidLocation,
     /// No region has this number.
     InvalidArgument,
-    /// A rule of a configuration, counted from 1, is wrong so.
+    /// A rule of a configuration, counted from 1, is wrong so, or a job is, at rule 0.
     InvalidRequest { rule: u32, kind: Kind },
+    /// The region has no job of this id.
+    NoSuchJob,
+    /// As many jobs as may be haven't ended.
+    TooManyJobs,
+    /// A job in this state can't do what was wanted.
+    JobStatus { from: JobState, wanted: Wanted },
+    /// The token made this job.
+    Idempotency { id: VersionId },
     /// There are fewer regions.
     NoSuchRegion { region: u8 },
     /// The last number that was received from the region is this one, and the command's isn't above it.

@@ -1,3 +1,4 @@
 pub mod PlaceLemmas
+pub mod OrderLemmas
 pub mod TurnLemmas
 pub mod SameLemmas

@@ -1,5 +1,5 @@
 -- The jobs of a region.
-use Rattle.std.specs.Prelude.{ℕ, suc, ◌+◌, ◌-◌, ◌≤◌, ◌==◌, Bool, false, ◌||◌, not, IsTrue, List, [], ◌∷◌, ◌++◌, find, Option, Some, None, is_some, if◌then◌else◌}
+use Rattle.std.specs.Prelude.{ℕ, suc, ◌+◌, ◌-◌, ◌≤◌, ◌==◌, nat_lt, Bool, false, ◌||◌, not, IsTrue, List, [], ◌∷◌, find, Option, Some, None, is_some, if◌then◌else◌}
 use Rattle.std.specs.List.{list_all}
 use Rattle.std.specs.Option.{option_or}
 use Rattle.std.specs.Str.{bytes_eq}
@@ -52,10 +52,20 @@ taken id jobs =
     else if is_some (find (is_job id) jobs.ended) then record jobs { ended = without id jobs.ended; out = jobs.out + 1 }
     else jobs
 
+-- the job before the first one that has a greater id
+abbrev pub in_order : JobFacts → List JobFacts → List JobFacts
+in_order job [] = job ∷ []
+in_order job (other ∷ jobs) = if nat_lt job.id other.id then job ∷ other ∷ jobs else other ∷ in_order job jobs
+
+-- how many jobs stand before the first one that has a greater id
+abbrev pub order_of : ℕ → List JobFacts → ℕ
+order_of id [] = 0
+order_of id (job ∷ jobs) = if nat_lt id job.id then 0 else suc (order_of id jobs)
+
 -- with the job in its place
 abbrev pub with_job : JobFacts → JobsFacts → JobsFacts
 with_job job jobs =
-    if has_ended job.state then record jobs { ended = jobs.ended ++ job ∷ [] } else record jobs { live = jobs.live ++ job ∷ [] }
+    if has_ended job.state then record jobs { ended = in_order job jobs.ended } else record jobs { live = in_order job jobs.live }
 
 -- once a job that was out is in its place again
 abbrev pub given_back : JobFacts → JobsFacts → JobsFacts

@@ -1,8 +1,10 @@
 pub mod Spec
 pub mod Same
 pub mod States
+pub mod Texts
 pub mod Stages
 pub mod Threshold
+pub mod Rules
 pub mod Room
 pub mod Facts
 pub mod Moves

@@ -111,19 +111,22 @@ impl AnyJob {
         of_job!(self, job => job.has_ended())
     }
 
-    pub(crate) fn is_over(&self) -> bool
+    /// Whether too many of its lines failed.
+    pub fn is_over(&self) -> bool
         ensures { result ≡ is_over (facts self.now).results }
     {
         of_job!(self, job => job.is_over())
     }
 
-    pub(crate) fn is_done(&self) -> bool
+    /// Whether it is Active and may end.
+    pub fn is_done(&self) -> bool
         ensures { result ≡ is_done (facts self.now) }
     {
         of_job!(self, job => job.is_done())
     }
 
-    pub(crate) fn is_free(&self) -> bool
+    /// Whether no line of it was begun without a result.
+    pub fn is_free(&self) -> bool
         ensures { result ≡ is_free (facts self.now).turn }
     {
         of_job!(self, job => job.is_free())

@@ -1,5 +1,8 @@
 //! Why a job isn't moved or taken in.
 
+ghost use Rattle.std.specs.Prelude.{◌≡◌};
+ghost use Rattle.s3r_jobs.specs.Texts.{wanted_text};
+
 use crate::state::JobState;
 use thiserror::Error;
 
@@ -16,6 +19,21 @@ pub enum Wanted {
     Finish,
     /// To have another priority.
     Priority,
+}
+
+impl Wanted {
+    /// As answers write it.
+    pub fn as_str(self) -> &'static str
+        ensures { result.now ≡ wanted_text self }
+    {
+        match self {
+            Wanted::State(state) => state.as_str(),
+            Wanted::Prepare => "Prepare",
+            Wanted::Line => "Line",
+            Wanted::Finish => "Finish",
+            Wanted::Priority => "Priority",
+        }
+    }
 }
 
 /// Why a job isn't moved. It is as it was.

@@ -22,7 +22,7 @@ pub const MOST_UNENDED: usize = 16;
 const MOST: usize = 4_294_967_295;
 
 /// The jobs of a region. Those that have ended stand apart from the others, so that a turn looks at few of them,
-/// however many there were. The order within either means nothing. Both have room for those that are out.
+/// however many there were. Either are in the order in which they were created. Both have room for those that are out.
 #[derive(Drop)]
 pub struct Jobs {
     live: Vec<AnyJob>,
@@ -150,16 +150,17 @@ impl Jobs {
         Some(job)
     }
 
-    /// A job that was taken out is in its place.
+    /// A job that was taken out is in its place: before the first one that has a greater id.
     pub fn give_back(&mut self, job: AnyJob)
         requires { 0 < self.old.out }
         ensures { self.new ≡ given_back (facts job) self.old }
     {
-        self.out -= 1;
         if job.has_ended() {
-            self.ended.push_reserved(job);
-        } else {
-            self.live.push_reserved(job);
+            places::put(&mut self.ended, job);
+            self.out -= 1;
+            return;
         }
+        places::put(&mut self.live, job);
+        self.out -= 1;
     }
 }

@@ -1,5 +1,8 @@
 //! The states of a job.
 
+ghost use Rattle.std.specs.Prelude.{◌≡◌};
+ghost use Rattle.s3r_jobs.specs.Texts.{state_text};
+
 /// Where a job stands (Amazon S3 User Guide, "Tracking job status and completion reports").
 #[derive(Clone, Copy, Debug, PartialEq, Eq)]
 pub enum JobState {
@@ -27,4 +30,26 @@ pub enum JobState {
     Cancelled,
     /// It ended because it couldn't go on.
     Failed,
+}
+
+impl JobState {
+    /// As answers write it (Amazon S3 API Reference, JobDescriptor).
+    pub fn as_str(self) -> &'static str
+        ensures { result.now ≡ state_text self }
+    {
+        match self {
+            JobState::New => "New",
+            JobState::Preparing => "Preparing",
+            JobState::Suspended => "Suspended",
+            JobState::Ready => "Ready",
+            JobState::Active => "Active",
+            JobState::Pausing => "Pausing",
+            JobState::Paused => "Paused",
+            JobState::Cancelling => "Cancelling",
+            JobState::Failing => "Failing",
+            JobState::Complete => "Complete",
+            JobState::Cancelled => "Cancelled",
+            JobState::Failed => "Failed",
+        }
+    }
 }

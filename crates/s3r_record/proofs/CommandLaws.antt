@@ -15,6 +15,8 @@ use Rattle.s3r_record.proofs.BucketLaws.{create_bucket_takes, create_bucket_agai
 use Rattle.s3r_record.proofs.ReplicationLaws.{set_replication_takes, set_replication_again, drop_replication_takes, drop_replication_again}
 use Rattle.s3r_record.proofs.Ruled.{Ruled, ruled_is}
 use Rattle.s3r_record.proofs.VersionLaws.{put_takes, put_again, marker_takes, marker_again, remove_takes, remove_again, set_tags_takes, set_tags_again, set_hold_takes, set_hold_again}
+use Rattle.s3r_record.proofs.JobLaws.{create_job_takes, create_job_again, move_job_takes, move_job_again, set_priority_takes, set_priority_again}
+use Rattle.s3r_record.proofs.JobLaws.{prepare_takes, prepare_again, line_takes, line_again, finish_takes, finish_again}
 use Rattle.s3r_record.proofs.TaskLaws.{receive_takes, receive_again, settle_takes, settle_again, attempt_takes, attempt_again}
 
 fields_take : (kind : ℕ) → TakesBehind spelling Ruled (kind ∷ []) (fields_at kind)
@@ -33,7 +35,13 @@ fields_take kind =
     take_chosen 11 kind receive_takes (
     take_chosen 12 kind settle_takes (
     take_chosen 13 kind attempt_takes (
-    take_none 0)))))))))))))
+    take_chosen 14 kind create_job_takes (
+    take_chosen 15 kind move_job_takes (
+    take_chosen 16 kind set_priority_takes (
+    take_chosen 17 kind prepare_takes (
+    take_chosen 18 kind line_takes (
+    take_chosen 19 kind finish_takes (
+    take_none 0)))))))))))))))))))
 
 -- what is read is spelled so
 pub command_takes : (bytes : List ℕ) (c : Command) → IsBytes bytes → command_at bytes ≡ Ok c → Ruled c × (bytes ≡ spelling c)
@@ -88,6 +96,12 @@ reads_again (command.SetHold bucket key id hold) fits = is_read 10 (command.SetH
 reads_again (command.Receive from n effect) fits = is_read 11 (command.Receive from n effect) (receive_again from n effect fits)
 reads_again (command.Settle to n outcome) fits = is_read 12 (command.Settle to n outcome) (settle_again to n outcome fits)
 reads_again (command.Attempt to n) fits = is_read 13 (command.Attempt to n) (attempt_again to n fits)
+reads_again (command.CreateJob spec manifest) fits = is_read 14 (command.CreateJob spec manifest) (create_job_again spec manifest fits)
+reads_again (command.MoveJob job state) fits = is_read 15 (command.MoveJob job state) (move_job_again job state fits)
+reads_again (command.SetPriority job priority) fits = is_read 16 (command.SetPriority job priority) (set_priority_again job priority fits)
+reads_again (command.Prepare job) fits = is_read 17 (command.Prepare job) (prepare_again job fits)
+reads_again (command.Line job line) fits = is_read 18 (command.Line job line) (line_again job line fits)
+reads_again (command.Finish job bytes) fits = is_read 19 (command.Finish job bytes) (finish_again job bytes fits)
 
 -- what is spelled so is read
 pub command_again : (c : Command) → IsCommand c → command_at (spelling c) ≡ Ok c

@@ -23,6 +23,9 @@ use Rattle.s3r_record.specs.ReadingEffects.{kind_fields_at, effect_at}
 use Rattle.s3r_record.specs.BucketCommands.{create_bucket_at, delete_bucket_at, set_versioning_at}
 use Rattle.s3r_record.specs.VersionCommands.{put_at, marker_at, remove_at, set_tags_at, set_hold_at}
 use Rattle.s3r_record.specs.TaskCommands.{outcome_of, outcome_at, receive_at, settle_at, attempt_at}
+use Rattle.s3r_jobs.specs.declared.state.JobState.TheVariants as states
+use Rattle.s3r_record.specs.ReadingJobs.{number_within, state_of, state_at}
+use Rattle.s3r_record.specs.JobCommands.{move_job_at, line_at}
 use Rattle.s3r_record.specs.Commands.{fields_at, command_at}
 
 abbrev fault_at : ℕ → Result Command ℕ
@@ -330,3 +333,31 @@ no_stamp_index : command_at (to_kind_fields 4 ++ 0 ∷ 0 ∷ 0 ∷ 0 ∷ 0 ∷ 0
 unfolding command_at fields_at receive_at effect_at kind_fields_at hold_copy_at effect_front_at stamped_hold_at stamp_at id_at region_at index_at
     tested_at sized_at flag_at byte_at is_utf8 chars lib.Utf8.encode
 no_stamp_index = refl
+
+-- ---- commands about jobs
+
+prepared : spelling (command.Prepare 5) ≡ 17 ∷ 0 ∷ 0 ∷ 0 ∷ 0 ∷ 0 ∷ 0 ∷ 0 ∷ 5 ∷ []
+prepared = refl
+
+paused : spelling (command.MoveJob 5 states.Paused) ≡ 15 ∷ 0 ∷ 0 ∷ 0 ∷ 0 ∷ 0 ∷ 0 ∷ 0 ∷ 5 ∷ 5 ∷ []
+paused = refl
+
+first_line : spelling (command.Line 5 1) ≡ 18 ∷ 0 ∷ 0 ∷ 0 ∷ 0 ∷ 0 ∷ 0 ∷ 0 ∷ 5 ∷ 0 ∷ 0 ∷ 0 ∷ 1 ∷ []
+first_line = refl
+
+finished : spelling (command.Finish 5 None) ≡ 19 ∷ 0 ∷ 0 ∷ 0 ∷ 0 ∷ 0 ∷ 0 ∷ 0 ∷ 5 ∷ 0 ∷ []
+finished = refl
+
+paused_read : command_at (15 ∷ 0 ∷ 0 ∷ 0 ∷ 0 ∷ 0 ∷ 0 ∷ 0 ∷ 5 ∷ 5 ∷ []) ≡ Ok (command.MoveJob 5 states.Paused)
+unfolding command_at fields_at move_job_at index_at state_at state_of byte_at
+paused_read = refl
+
+-- no command moves a job to an eighth state
+eighth_state : command_at (15 ∷ 0 ∷ 0 ∷ 0 ∷ 0 ∷ 0 ∷ 0 ∷ 0 ∷ 5 ∷ 8 ∷ []) ≡ fault_at 9
+unfolding command_at fields_at move_job_at index_at state_at state_of byte_at
+eighth_state = refl
+
+-- lines are counted from 1
+no_line : command_at (18 ∷ 0 ∷ 0 ∷ 0 ∷ 0 ∷ 0 ∷ 0 ∷ 0 ∷ 5 ∷ 0 ∷ 0 ∷ 0 ∷ 0 ∷ []) ≡ fault_at 9
+unfolding command_at fields_at line_at index_at number_within
+no_line = refl

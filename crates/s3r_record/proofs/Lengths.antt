@@ -1,5 +1,5 @@
 -- How long spellings are.
-use Rattle.std.proofs.Common.{◌≡◌, ℕ, ◌+◌, ◌*◌, ◌≤◌, ◌<◌, Bool, true, false, List, [], ◌∷◌, ◌++◌, map, length, refl, ap, arith, length-append, lit<}
+use Rattle.std.proofs.Common.{◌≡◌, ℕ, ◌+◌, ◌*◌, ◌≤◌, ◌<◌, Bool, true, false, List, [], ◌∷◌, ◌++◌, map, nat_le, length, Option, Some, None, refl, ap, arith, length-append, lit<, lit≤}
 use Rattle.std.specs.Int.{w16, w32, to_be_bytes}
 use Rattle.std.specs.List.{list_all, flat_map, zip}
 use Rattle.std.proofs.lemmas.Bool.{and_parts, leb-true}
@@ -15,15 +15,22 @@ use Rattle.s3r_names.specs.declared.version.VersionId.{VersionId}
 use Rattle.s3r_names.proofs.BucketNames.{name_is}
 use Rattle.s3r_names.proofs.Keys.{key_is}
 use Rattle.s3r_names.proofs.ClassNames.{class_is}
-use Rattle.s3r_names.proofs.TagTexts.{tag_is}
+use Rattle.std.specs.Str.{is_utf8}
+use Rattle.s3r_names.proofs.TagTexts.{text-length, tag_is}
+use Rattle.s3r_jobs.specs.Rules.{is_token, IsPrefix, PrefixMeetsLimits, IsOperation, OperationMeetsLimits, IsReport, ReportMeetsLimits, IsJobSpec, SpecMeetsLimits}
+use Rattle.s3r_jobs.specs.declared.spec.JobSpec.{JobSpec}
+use Rattle.s3r_jobs.specs.declared.spec.ReportSpec.{ReportSpec}
+use Rattle.s3r_jobs.specs.declared.spec.Operation.{Operation}
+use Rattle.s3r_jobs.specs.declared.spec.Operation.TheVariants as operations
 use Rattle.s3r_rules.specs.declared.rule.Rule.{Rule}
 use Rattle.s3r_record.specs.declared.command.Command.{Command}
 use Rattle.s3r_record.specs.declared.command.Command.TheVariants as command
 use Rattle.s3r_record.specs.declared.effect.Effect.{Effect}
 use Rattle.s3r_record.specs.declared.effect.Effect.TheVariants as effects
 use Rattle.s3r_record.specs.Fields.{text, body, flag, tag_bytes, tags_bytes, id_bytes, rule_bytes, rules_bytes}
-use Rattle.s3r_record.specs.Fields.{number_bytes, stamp_bytes, outcome_byte, effect_bytes}
-use Rattle.s3r_record.specs.Spelling.{spelling, IsCommand, MeetsLimits, IsEffect, EffectMeetsLimits, fits_record}
+use Rattle.s3r_record.specs.Fields.{number_bytes, stamp_bytes, outcome_byte, effect_bytes, option_text}
+use Rattle.s3r_record.specs.JobFields.{option_id, option_body, operation_bytes, option_report, spec_bytes, state_byte}
+use Rattle.s3r_record.specs.Spelling.{spelling, IsCommand, MeetsLimits, IsEffect, EffectMeetsLimits, BodyMeetsLimits, fits_record}
 use Rattle.s3r_record.proofs.TagLaws.{set_is}
 
 -- ---- one field
@@ -117,6 +124,74 @@ effect_short (effects.Hold from to key id hold stamp) is =
 one_byte : (byte : ℕ) → IsShort 1 (byte ∷ [])
 one_byte byte = record { short = omega arith }
 
+-- ---- the fields of a job's commands
+
+four_short : (n : ℕ) → IsShort 4 (to_be_bytes w32 n)
+four_short n = let four : length (to_be_bytes w32 n) ≡ 4 = refl in record { short = omega (arith, four) }
+
+token_short : (token : List ℕ) → is_token token ≡ true → IsShort 258 (text token)
+token_short token named = record { short = omega (arith, length-text token, text-length token 1 64 named) }
+
+option_prefix_short : (most : ℕ) (prefix : Option (List ℕ)) → IsPrefix most prefix → most ≤ 1024 → IsShort 1027 (option_text prefix)
+option_prefix_short most None is low = record { short = omega arith }
+option_prefix_short most (Some prefix) is low =
+    let short = leb-true (length prefix) most (and_parts (is_utf8 prefix) (nat_le (length prefix) most) is).1 in
+    record { short = omega (arith, length-text prefix, short, low) }
+
+option_id_short : (id : Option VersionId) → IsShort 10 (option_id id)
+option_id_short None = record { short = omega arith }
+option_id_short (Some id) = record { short = omega (arith, length-id_bytes id) }
+
+option_body_short : (bytes : Option (List ℕ)) → BodyMeetsLimits bytes → IsShort 15582917 (option_body bytes)
+option_body_short None is = record { short = omega arith }
+option_body_short (Some bytes) short = record { short = omega (arith, (body_short 15582912 bytes short).short) }
+
+operation_short : (operation : Operation) → IsOperation operation → IsShort 15402 (operation_bytes operation)
+operation_short (operations.Copy target prefix) is =
+    let fields = joined (bucket_short target is.0) (option_prefix_short 1024 prefix is.1 (lit≤ tt)) in record { short = omega (arith, fields.short) }
+operation_short (operations.Tagging tags) is = record { short = omega (arith, (tags_short tags is).short) }
+operation_short (operations.Hold hold) is = record { short = omega (arith, length-flag hold) }
+operation_short operations.Replicate is = record { short = omega arith }
+
+option_report_short : (report : Option ReportSpec) → IsReport report → IsShort 1094 (option_report report)
+option_report_short None is = record { short = omega arith }
+option_report_short (Some report) is =
+    let fields = joined (joined (bucket_short report.bucket is.0) (option_prefix_short 512 report.prefix is.1 (lit≤ tt))) (flag_short report.all) in
+    record { short = omega (arith, fields.short) }
+
+spec_short : (spec : JobSpec) → IsJobSpec spec → IsShort 18000 (spec_bytes spec)
+spec_short spec is =
+    let manifest = joined (joined (joined (flag_short spec.manifest.versions) (bucket_short spec.manifest.bucket is.manifest.bucket))
+    (key_short spec.manifest.key is.manifest.key)) (option_id_short spec.manifest.version) in
+    let all = joined (joined (joined (joined (joined (token_short spec.token is.token) (four_short spec.priority)) (flag_short spec.confirm))
+    (operation_short spec.operation is.operation)) manifest) (option_report_short spec.report is.report) in
+    record { short = omega (arith, all.short) }
+
+prefix_meets : (most : ℕ) (prefix : Option (List ℕ)) → IsPrefix most prefix → PrefixMeetsLimits most prefix
+prefix_meets most None is = tt
+prefix_meets most (Some prefix) is = leb-true (length prefix) most (and_parts (is_utf8 prefix) (nat_le (length prefix) most) is).1
+
+operation_meets : (operation : Operation) → IsOperation operation → OperationMeetsLimits operation
+operation_meets (operations.Copy target prefix) is = prefix_meets 1024 prefix is.1
+operation_meets (operations.Tagging tags) is = tt
+operation_meets (operations.Hold hold) is = tt
+operation_meets operations.Replicate is = tt
+
+report_meets : (report : Option ReportSpec) → IsReport report → ReportMeetsLimits report
+report_meets None is = tt
+report_meets (Some report) is = prefix_meets 512 report.prefix is.1
+
+spec_meets : (spec : JobSpec) → IsJobSpec spec → SpecMeetsLimits spec
+spec_meets spec is = record {
+  token = is.token;
+  priority = is.priority;
+  operation = operation_meets spec.operation is.operation;
+  version = is.manifest.version;
+  report = report_meets spec.report is.report;
+}
+
+-- ---- all commands
+
 fits : {limit : ℕ} {fields : List ℕ} (kind : ℕ) → IsShort limit fields → limit < 16777216 → length (kind ∷ fields) ≤ 16777216
 fits kind fields below = omega (arith, fields.short)
 
@@ -138,6 +213,12 @@ spelling_short (command.SetHold bucket key id hold) is = fits 10 (joined (joined
 spelling_short (command.Receive from n effect) is = fits 11 (joined (one_byte from) (joined (number_short n) (effect_short effect is.1))) (lit< tt)
 spelling_short (command.Settle to n outcome) is = fits 12 (joined (one_byte to) (joined (number_short n) (one_byte (outcome_byte outcome)))) (lit< tt)
 spelling_short (command.Attempt to n) is = fits 13 (joined (one_byte to) (number_short n)) (lit< tt)
+spelling_short (command.CreateJob spec manifest) is = fits 14 (joined (spec_short spec is.0) (id_short manifest)) (lit< tt)
+spelling_short (command.MoveJob job state) is = fits 15 (joined (number_short job) (one_byte (state_byte state))) (lit< tt)
+spelling_short (command.SetPriority job priority) is = fits 16 (joined (number_short job) (four_short priority)) (lit< tt)
+spelling_short (command.Prepare job) is = fits 17 (number_short job) (lit< tt)
+spelling_short (command.Line job line) is = fits 18 (joined (number_short job) (four_short line)) (lit< tt)
+spelling_short (command.Finish job bytes) is = fits 19 (joined (number_short job) (option_body_short bytes is.1)) (lit< tt)
 
 effect_meets : (effect : Effect (List ℕ)) → IsEffect effect → EffectMeetsLimits effect
 effect_meets (effects.Replica from to key id n tags tags_stamp hold hold_stamp class bytes) is = is.5
@@ -159,6 +240,12 @@ meets_limits (command.SetHold bucket key id hold) is = is.2
 meets_limits (command.Receive from n effect) is = (is.0, effect_meets effect is.1)
 meets_limits (command.Settle to n outcome) is = is
 meets_limits (command.Attempt to n) is = is
+meets_limits (command.CreateJob spec manifest) is = (spec_meets spec is.0, is.1)
+meets_limits (command.MoveJob job state) is = is
+meets_limits (command.SetPriority job priority) is = is
+meets_limits (command.Prepare job) is = is
+meets_limits (command.Line job line) is = is
+meets_limits (command.Finish job bytes) is = is
 
 -- ---- a configuration's command has one length, whatever its regions are
 

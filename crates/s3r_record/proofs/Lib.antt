@@ -3,6 +3,7 @@ pub mod SeveralFields
 pub mod FieldLaws
 pub mod Texts
 pub mod TextLaws
+pub mod JobTexts
 pub mod TagLaws
 pub mod TagLoop
 pub mod IdLaws
@@ -16,6 +17,7 @@ pub mod ReplicationLaws
 pub mod VersionLaws
 pub mod EffectLaws
 pub mod TaskLaws
+pub mod JobLaws
 pub mod CommandLaws
 pub mod Lengths
 pub mod Examples

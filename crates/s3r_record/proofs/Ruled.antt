@@ -23,6 +23,12 @@ Ruled (command.SetHold bucket key id hold) = IsCommand (command.SetHold bucket k
 Ruled (command.Receive from n effect) = IsCommand (command.Receive from n effect)
 Ruled (command.Settle to n outcome) = IsCommand (command.Settle to n outcome)
 Ruled (command.Attempt to n) = IsCommand (command.Attempt to n)
+Ruled (command.CreateJob spec manifest) = IsCommand (command.CreateJob spec manifest)
+Ruled (command.MoveJob job state) = IsCommand (command.MoveJob job state)
+Ruled (command.SetPriority job priority) = IsCommand (command.SetPriority job priority)
+Ruled (command.Prepare job) = IsCommand (command.Prepare job)
+Ruled (command.Line job line) = IsCommand (command.Line job line)
+Ruled (command.Finish job bytes) = IsCommand (command.Finish job bytes)
 
 pub ruled_is : (c : Command) → Ruled c → length (spelling c) ≤ 16777216 → IsCommand c
 ruled_is (command.SetReplication name config regions) ruled short = (ruled.0, ruled.1, ruled.2, short, ruled.3)
@@ -38,3 +44,9 @@ ruled_is (command.SetHold bucket key id hold) ruled short = ruled
 ruled_is (command.Receive from n effect) ruled short = ruled
 ruled_is (command.Settle to n outcome) ruled short = ruled
 ruled_is (command.Attempt to n) ruled short = ruled
+ruled_is (command.CreateJob spec manifest) ruled short = ruled
+ruled_is (command.MoveJob job state) ruled short = ruled
+ruled_is (command.SetPriority job priority) ruled short = ruled
+ruled_is (command.Prepare job) ruled short = ruled
+ruled_is (command.Line job line) ruled short = ruled
+ruled_is (command.Finish job bytes) ruled short = ruled

@@ -1,4 +1,5 @@
 pub mod Fields
+pub mod JobFields
 pub mod Placing
 pub mod Spelling
 pub mod Laws
@@ -8,8 +9,10 @@ pub mod ReadingTags
 pub mod ReadingIds
 pub mod ReadingRules
 pub mod ReadingEffects
+pub mod ReadingJobs
 pub mod BucketCommands
 pub mod ReplicationCommands
 pub mod VersionCommands
 pub mod TaskCommands
+pub mod JobCommands
 pub mod Commands

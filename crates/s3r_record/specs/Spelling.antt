@@ -1,5 +1,5 @@
 -- The one spelling of each command, and what a record holds of it.
-use Rattle.std.specs.Prelude.{◌≤◌, ◌<◌, ◌^◌, ℕ, Bool, nat_le, List, [], ◌∷◌, ◌++◌, map, length, IsTrue}
+use Rattle.std.specs.Prelude.{◌≤◌, ◌<◌, ◌^◌, ℕ, Bool, nat_le, List, [], ◌∷◌, ◌++◌, map, length, Option, Some, None, IsTrue}
 use Rattle.std.specs.Int.{w32, to_be_bytes}
 use Rattle.std.specs.List.{list_all}
 use Rattle.s3r_names.specs.Bucket.{is_bucket_name}
@@ -15,6 +15,8 @@ use Rattle.s3r_record.specs.declared.command.Command.TheVariants as command
 use Rattle.s3r_record.specs.declared.effect.Effect.{Effect}
 use Rattle.s3r_record.specs.declared.effect.Effect.TheVariants as effects
 use Rattle.s3r_record.specs.Fields.{text, body, flag, tags_bytes, id_bytes, rules_bytes, number_bytes, outcome_byte, effect_bytes}
+use Rattle.s3r_jobs.specs.Rules.{IsJobSpec, SpecMeetsLimits}
+use Rattle.s3r_record.specs.JobFields.{spec_bytes, state_byte, option_body, is_moved_to}
 use Rattle.s3r_record.specs.Placing.{IsPlaced, has_texts}
 
 -- a byte that says which command it is, and its fields in order
@@ -32,6 +34,12 @@ spelling (command.SetHold bucket key id hold) = 10 ∷ (text bucket ++ text key 
 spelling (command.Receive from n effect) = 11 ∷ from ∷ (number_bytes n ++ effect_bytes effect)
 spelling (command.Settle to n outcome) = 12 ∷ to ∷ (number_bytes n ++ outcome_byte outcome ∷ [])
 spelling (command.Attempt to n) = 13 ∷ to ∷ number_bytes n
+spelling (command.CreateJob spec manifest) = 14 ∷ (spec_bytes spec ++ id_bytes manifest)
+spelling (command.MoveJob job state) = 15 ∷ (number_bytes job ++ state_byte state ∷ [])
+spelling (command.SetPriority job priority) = 16 ∷ (number_bytes job ++ to_be_bytes w32 priority)
+spelling (command.Prepare job) = 17 ∷ number_bytes job
+spelling (command.Line job line) = 18 ∷ (number_bytes job ++ to_be_bytes w32 line)
+spelling (command.Finish job bytes) = 19 ∷ (number_bytes job ++ option_body bytes)
 
 -- a region is at most 7, an index at least 1
 pub record IsStamp (stamp : Stamp) : Type 0 where
@@ -45,6 +53,16 @@ pub record IsTask (r n : ℕ) : Type 0 where
   pub region : r ≤ 7
   pub above : 1 ≤ n
   pub below : n < 2 ^ 64
+
+-- a job's id is the index of the command that created it, counted from 1
+pub record IsJobId (job : ℕ) : Type 0 where
+  pub above : 1 ≤ job
+  pub below : job < 2 ^ 64
+
+-- a report's body, where there is one
+abbrev pub BodyMeetsLimits : Option (List ℕ) → Type 0
+BodyMeetsLimits None = Unit {0}
+BodyMeetsLimits (Some bytes) = length bytes ≤ 15582912
 
 -- what the types of an effect's fields leave open; a body is a Put's or a report's
 abbrev pub EffectMeetsLimits : Effect (List ℕ) → Type 0
@@ -99,6 +117,12 @@ IsCommand (command.SetHold bucket key id hold) = IsTrue (is_bucket_name bucket) 
 IsCommand (command.Receive from n effect) = IsTask from n × IsEffect effect
 IsCommand (command.Settle to n outcome) = IsTask to n
 IsCommand (command.Attempt to n) = IsTask to n
+IsCommand (command.CreateJob spec manifest) = IsJobSpec spec × IsVersionId manifest
+IsCommand (command.MoveJob job state) = IsJobId job × IsTrue (is_moved_to state)
+IsCommand (command.SetPriority job priority) = IsJobId job × (priority ≤ 2147483647)
+IsCommand (command.Prepare job) = IsJobId job
+IsCommand (command.Line job line) = IsJobId job × (1 ≤ line) × (line ≤ 4294967295)
+IsCommand (command.Finish job bytes) = IsJobId job × BodyMeetsLimits bytes
 
 -- what the types of its fields leave open: the length of a body, the rule of an id, and of a configuration its regions and
 -- its length
@@ -116,6 +140,12 @@ MeetsLimits (command.SetHold bucket key id hold) = IsVersionId id
 MeetsLimits (command.Receive from n effect) = IsTask from n × EffectMeetsLimits effect
 MeetsLimits (command.Settle to n outcome) = IsTask to n
 MeetsLimits (command.Attempt to n) = IsTask to n
+MeetsLimits (command.CreateJob spec manifest) = SpecMeetsLimits spec × IsVersionId manifest
+MeetsLimits (command.MoveJob job state) = IsJobId job × IsTrue (is_moved_to state)
+MeetsLimits (command.SetPriority job priority) = IsJobId job × (priority ≤ 2147483647)
+MeetsLimits (command.Prepare job) = IsJobId job
+MeetsLimits (command.Line job line) = IsJobId job × (1 ≤ line) × (line ≤ 4294967295)
+MeetsLimits (command.Finish job bytes) = IsJobId job × BodyMeetsLimits bytes
 
 -- a configuration's command is short enough for a record, whatever its regions are
 abbrev pub fits_record : List ℕ → List Rule → Bool

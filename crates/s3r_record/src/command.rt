@@ -1,4 +1,5 @@
 use crate::effect::Effect;
+use s3r_jobs::{JobSpec, JobState};
 use s3r_names::{BucketName, Bytes, ClassName, Key, Outcome, TagSet, VersionId};
 use s3r_rules::Config;
 
@@ -76,5 +77,34 @@ pub enum Command {
     Attempt {
         to: u8,
         number: u64,
+    },
+    /// A job was created over this version of its manifest. Its id is this command's index.
+    CreateJob {
+        spec: JobSpec,
+        manifest: VersionId,
+    },
+    /// A job moves to this state.
+    MoveJob {
+        job: u64,
+        state: JobState,
+    },
+    /// A job's priority is this from now on.
+    SetPriority {
+        job: u64,
+        priority: u32,
+    },
+    /// A job's lines are read from its manifest.
+    Prepare {
+        job: u64,
+    },
+    /// A line of a job is done, or begun.
+    Line {
+        job: u64,
+        line: u32,
+    },
+    /// A job ends, with its report's body where it has a report.
+    Finish {
+        job: u64,
+        body: Option<Bytes>,
     },
 }

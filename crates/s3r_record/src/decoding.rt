@@ -9,6 +9,7 @@ ghost use Rattle.s3r_record.specs.declared.command.Command.{Command};
 use crate::bucket_decoding::{create_bucket, delete_bucket, set_versioning};
 use crate::command::Command;
 use crate::fault::RecordFault;
+use crate::job_decoding::{create_job, finish, line, move_job, prepare, set_priority};
 use crate::kinds;
 use crate::reading::Rest;
 use crate::replication_decoding::{drop_replication, set_replication};
@@ -34,6 +35,12 @@ fn fields_of(alloc: Global, kind: u8, fields: Rest<'_>) -> Result<(Command, Rest
         kinds::RECEIVE => receive(alloc, fields),
         kinds::SETTLE => settle(fields),
         kinds::ATTEMPT => attempt(fields),
+        kinds::CREATE_JOB => create_job(alloc, fields),
+        kinds::MOVE_JOB => move_job(fields),
+        kinds::SET_PRIORITY => set_priority(fields),
+        kinds::PREPARE => prepare(fields),
+        kinds::LINE => line(fields),
+        kinds::FINISH => finish(alloc, fields),
         _ => Err(RecordFault::NotACommand(0)),
     }
 }

@@ -8,6 +8,9 @@ ghost use Rattle.s3r_record.specs.declared.command.Command.{Command};
 use crate::bucket_encoding::{write_create_bucket, write_delete_bucket, write_set_versioning};
 use crate::command::Command;
 use crate::effect::Effect;
+use crate::job_encoding::{
+    write_create_job, write_finish, write_line, write_move_job, write_prepare, write_set_priority,
+};
 use crate::replication_encoding::{write_drop_replication, write_set_replication};
 use crate::task_encoding::{write_attempt, write_receive, write_settle};
 use crate::version_encoding::{
@@ -64,6 +67,12 @@ fn write_command(out: &mut Vec<u8>, command: &Command) -> Result<(), AllocError>
             outcome,
         } => write_settle(out, *to, *number, *outcome),
         Command::Attempt { to, number } => write_attempt(out, *to, *number),
+        Command::CreateJob { spec, manifest } => write_create_job(out, spec, *manifest),
+        Command::MoveJob { job, state } => write_move_job(out, *job, *state),
+        Command::SetPriority { job, priority } => write_set_priority(out, *job, *priority),
+        Command::Prepare { job } => write_prepare(out, *job),
+        Command::Line { job, line } => write_line(out, *job, *line),
+        Command::Finish { job, body } => write_finish(out, *job, body),
     }
 }
 
@@ -78,6 +87,9 @@ const LONGEST_TAG: usize = 1540;
 
 /// More bytes than most rules have.
 const USUAL_RULE: usize = 256;
+
+/// More bytes than most specifications of jobs have.
+const USUAL_SPEC: usize = 1_024;
 
 /// At least the bytes of the effect's record, so that its buffer never grows.
 fn likely_effect_length(effect: &Effect<Bytes>) -> usize {
@@ -107,7 +119,17 @@ fn likely_length(command: &Command) -> usize {
         | Command::SetVersioning { .. }
         | Command::DropReplication { .. }
         | Command::Settle { .. }
-        | Command::Attempt { .. } => SHORT_FIELDS,
+        | Command::Attempt { .. }
+        | Command::MoveJob { .. }
+        | Command::SetPriority { .. }
+        | Command::Prepare { .. }
+        | Command::Line { .. }
+        | Command::Finish { body: None, .. } => SHORT_FIELDS,
+        Command::Finish {
+            body: Some(body),
+            ..
+        } => SHORT_FIELDS + body.as_slice().len(),
+        Command::CreateJob { .. } => USUAL_SPEC,
         Command::SetReplication { config, .. } => SHORT_FIELDS
             + USUAL_RULE * config.as_slice().len(),
         Command::Put {

@@ -25,3 +25,15 @@ pub(crate) const RECEIVE: u8 = 11;
 pub(crate) const SETTLE: u8 = 12;
 
 pub(crate) const ATTEMPT: u8 = 13;
+
+pub(crate) const CREATE_JOB: u8 = 14;
+
+pub(crate) const MOVE_JOB: u8 = 15;
+
+pub(crate) const SET_PRIORITY: u8 = 16;
+
+pub(crate) const PREPARE: u8 = 17;
+
+pub(crate) const LINE: u8 = 18;
+
+pub(crate) const FINISH: u8 = 19;

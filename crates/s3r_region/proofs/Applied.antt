@@ -17,6 +17,7 @@ use Rattle.s3r_region.specs.declared.change.Change.{Change}
 use Rattle.s3r_region.specs.declared.change.Change.TheVariants as change
 use Rattle.s3r_region.specs.Waiting.{Waiting, IsAccepted}
 use Rattle.s3r_region.specs.Waiting as waiting
+use Rattle.s3r_region.specs.KeptJobs.{KeptJobs}
 use Rattle.s3r_region.specs.Contents.{Contents, is_named}
 use Rattle.s3r_region.specs.After.{seen, IsAfter}
 use Rattle.s3r_region.specs.Applies.{Applies}
@@ -27,8 +28,8 @@ use Rattle.s3r_region.proofs.Steps.{buckets_with, after-create, after-delete, af
 use Rattle.s3r_region.proofs.Prescribed.{put-sends, marker-sends, tags-sends, hold-sends}
 
 -- a state of these parts
-abbrev pub kept : (region commands clock : ℕ) → List Bucket → Waiting → Contents
-kept region commands clock buckets queues = record {
+abbrev pub kept : (region commands clock : ℕ) → List Bucket → Waiting → KeptJobs → Contents
+kept region commands clock buckets queues jobs = record {
   region = region;
   regions = queues.regions;
   commands = commands;
@@ -36,29 +37,30 @@ kept region commands clock buckets queues = record {
   buckets = buckets;
   outbox = queues.outbox;
   inbox = queues.inbox;
+  jobs = jobs;
 }
 
 -- ---- a bucket more or less
 
-pub created : (region commands clock : ℕ) (buckets new : List Bucket) (q : Waiting) (now : Contents) (name : Name) (locked : Bool)
-    → kept region commands clock buckets q ≡ now → new ≡ buckets ++ new_bucket name locked ∷ []
-    → Applies (command.CreateBucket name locked) now (kept region (commands + 1) clock new q)
-created region commands clock buckets new q now name locked view is =
-    subst (λ (old : Contents). Applies (command.CreateBucket name locked) old (kept region (commands + 1) clock new q)) view (record {
-      after = λ h a ok. subst (λ bs. IsAfter (kept region (commands + 1) clock bs q) (command.CreateBucket name locked ∷ h)) (sym is)
-          (after-create (kept region commands clock buckets q) h name locked a ok);
+pub created : (region commands clock : ℕ) (buckets new : List Bucket) (q : Waiting) (jobs : KeptJobs) (now : Contents) (name : Name) (locked : Bool)
+    → kept region commands clock buckets q jobs ≡ now → new ≡ buckets ++ new_bucket name locked ∷ []
+    → Applies (command.CreateBucket name locked) now (kept region (commands + 1) clock new q jobs)
+created region commands clock buckets new q jobs now name locked view is =
+    subst (λ (old : Contents). Applies (command.CreateBucket name locked) old (kept region (commands + 1) clock new q jobs)) view (record {
+      after = λ h a ok. subst (λ bs. IsAfter (kept region (commands + 1) clock bs q jobs) (command.CreateBucket name locked ∷ h)) (sym is)
+          (after-create (kept region commands clock buckets q jobs) h name locked a ok);
       count = refl;
       region = refl;
       regions = refl;
     })
 
-pub deleted : (region commands clock : ℕ) (buckets new : List Bucket) (q : Waiting) (now : Contents) (name : Name)
-    → kept region commands clock buckets q ≡ now → new ≡ without_first (is_named name) buckets
-    → Applies (command.DeleteBucket name) now (kept region (commands + 1) clock new q)
-deleted region commands clock buckets new q now name view is =
-    subst (λ (old : Contents). Applies (command.DeleteBucket name) old (kept region (commands + 1) clock new q)) view (record {
-      after = λ h a ok. subst (λ bs. IsAfter (kept region (commands + 1) clock bs q) (command.DeleteBucket name ∷ h)) (sym is)
-          (after-delete (kept region commands clock buckets q) h name a ok);
+pub deleted : (region commands clock : ℕ) (buckets new : List Bucket) (q : Waiting) (jobs : KeptJobs) (now : Contents) (name : Name)
+    → kept region commands clock buckets q jobs ≡ now → new ≡ without_first (is_named name) buckets
+    → Applies (command.DeleteBucket name) now (kept region (commands + 1) clock new q jobs)
+deleted region commands clock buckets new q jobs now name view is =
+    subst (λ (old : Contents). Applies (command.DeleteBucket name) old (kept region (commands + 1) clock new q jobs)) view (record {
+      after = λ h a ok. subst (λ bs. IsAfter (kept region (commands + 1) clock bs q jobs) (command.DeleteBucket name ∷ h)) (sym is)
+          (after-delete (kept region commands clock buckets q jobs) h name a ok);
       count = refl;
       region = refl;
       regions = refl;
@@ -173,61 +175,63 @@ held s t name key id hold stamp sends is at above these =
 -- ---- a task that is received, settled or tried
 
 -- the number of regions stays
-as_many : (region commands clock : ℕ) (buckets : List Bucket) (p q : Waiting) (h : History) → p.regions ≡ q.regions
-    → IsAfter (record (kept region commands clock buckets q) { outbox = p.outbox; inbox = p.inbox }) h → IsAfter (kept region commands clock buckets p) h
-as_many region commands clock buckets p q h same a =
-    subst (λ n. IsAfter (record (kept region commands clock buckets p) { regions = n }) h) (sym same) a
+as_many : (region commands clock : ℕ) (buckets : List Bucket) (p q : Waiting) (jobs : KeptJobs) (h : History) → p.regions ≡ q.regions
+    → IsAfter (record (kept region commands clock buckets q jobs) { outbox = p.outbox; inbox = p.inbox }) h
+    → IsAfter (kept region commands clock buckets p jobs) h
+as_many region commands clock buckets p q jobs h same a =
+    subst (λ n. IsAfter (record (kept region commands clock buckets p jobs) { regions = n }) h) (sym same) a
 
 queues-now : (r : ℕ) (p q : Waiting) (h : History) → p.regions ≡ q.regions → waiting.IsAfter r p h → QueuesAfter r q.regions p.outbox p.inbox h
 queues-now r p q h same a = subst (λ n. QueuesAfter r n p.outbox p.inbox h) same a
 
-pub received : (region commands clock : ℕ) (buckets new : List Bucket) (q p : Waiting) (now : Contents) (from number : ℕ) (e : Carried) (outcome : Outcome)
+pub received : (region commands clock : ℕ) (buckets new : List Bucket) (q p : Waiting) (jobs : KeptJobs) (now : Contents) (from number : ℕ) (e : Carried)
+    (outcome : Outcome)
     (n : ℕ)
-    → kept region commands clock buckets q ≡ now → p.regions ≡ q.regions
+    → kept region commands clock buckets q jobs ≡ now → p.regions ≡ q.regions
     → ((r : ℕ) (h : History) (f : Carried) → IsAccepted q.regions r h (command.Receive from number f) → outcome ≡ judge r h f → waiting.IsAfter r q h
     → waiting.IsAfter r p (command.Receive from number f ∷ h))
-    → new ≡ buckets_with (kept region commands clock buckets q) from e outcome → n ≡ max (carried_n e) clock
-    → ((h : History) → IsAfter now h → outcome ≡ judge now.region h e) → Applies (command.Receive from number e) now (kept region (commands + 1) n new p)
-received region commands clock buckets new q p now from number e outcome n view many queues is at judges =
-    subst (λ (old : Contents). Applies (command.Receive from number e) old (kept region (commands + 1) n new p)) view (record {
+    → new ≡ buckets_with (kept region commands clock buckets q jobs) from e outcome → n ≡ max (carried_n e) clock
+    → ((h : History) → IsAfter now h → outcome ≡ judge now.region h e) → Applies (command.Receive from number e) now (kept region (commands + 1) n new p jobs)
+received region commands clock buckets new q p jobs now from number e outcome n view many queues is at judges =
+    subst (λ (old : Contents). Applies (command.Receive from number e) old (kept region (commands + 1) n new p jobs)) view (record {
       after = λ h a ok.
           let came = judges h (subst (λ (s : Contents). IsAfter s h) view a) ∙ ap (λ (s : Contents). judge s.region h e) (sym view) in
-          as_many region (commands + 1) n new p q (command.Receive from number e ∷ h) many
-          (subst (λ bs. IsAfter (record (kept region (commands + 1) n bs q) { outbox = p.outbox; inbox = p.inbox }) (command.Receive from number e ∷ h))
+          as_many region (commands + 1) n new p q jobs (command.Receive from number e ∷ h) many
+          (subst (λ bs. IsAfter (record (kept region (commands + 1) n bs q jobs) { outbox = p.outbox; inbox = p.inbox }) (command.Receive from number e ∷ h))
           (sym is)
-          (subst (λ m. IsAfter (record (kept region (commands + 1) m (buckets_with (kept region commands clock buckets q) from e outcome) q)
+          (subst (λ m. IsAfter (record (kept region (commands + 1) m (buckets_with (kept region commands clock buckets q jobs) from e outcome) q jobs)
           { outbox = p.outbox; inbox = p.inbox }) (command.Receive from number e ∷ h)) (sym at)
-          (after-receive (kept region commands clock buckets q) h from number e outcome p.outbox p.inbox a ok came
+          (after-receive (kept region commands clock buckets q jobs) h from number e outcome p.outbox p.inbox a ok came
           (queues-now region p q (command.Receive from number e ∷ h) many (queues region h e ok came a.queues)))));
       count = refl;
       region = refl;
       regions = many;
     })
 
-pub settled : (region commands clock : ℕ) (buckets : List Bucket) (q p : Waiting) (now : Contents) (to number : ℕ) (outcome : Outcome)
-    → kept region commands clock buckets q ≡ now → p.regions ≡ q.regions
+pub settled : (region commands clock : ℕ) (buckets : List Bucket) (q p : Waiting) (jobs : KeptJobs) (now : Contents) (to number : ℕ) (outcome : Outcome)
+    → kept region commands clock buckets q jobs ≡ now → p.regions ≡ q.regions
     → ((r : ℕ) (h : History) → IsAccepted q.regions r h (command.Settle to number outcome) → waiting.IsAfter r q h
     → waiting.IsAfter r p (command.Settle to number outcome ∷ h))
-    → Applies (command.Settle to number outcome) now (kept region (commands + 1) clock buckets p)
-settled region commands clock buckets q p now to number outcome view many queues =
-    subst (λ (old : Contents). Applies (command.Settle to number outcome) old (kept region (commands + 1) clock buckets p)) view (record {
-      after = λ h a ok. as_many region (commands + 1) clock buckets p q (command.Settle to number outcome ∷ h) many
-          (after-settle (kept region commands clock buckets q) h to number outcome p.outbox p.inbox a ok
+    → Applies (command.Settle to number outcome) now (kept region (commands + 1) clock buckets p jobs)
+settled region commands clock buckets q p jobs now to number outcome view many queues =
+    subst (λ (old : Contents). Applies (command.Settle to number outcome) old (kept region (commands + 1) clock buckets p jobs)) view (record {
+      after = λ h a ok. as_many region (commands + 1) clock buckets p q jobs (command.Settle to number outcome ∷ h) many
+          (after-settle (kept region commands clock buckets q jobs) h to number outcome p.outbox p.inbox a ok
           (queues-now region p q (command.Settle to number outcome ∷ h) many (queues region h ok a.queues)));
       count = refl;
       region = refl;
       regions = many;
     })
 
-pub tried : (region commands clock : ℕ) (buckets : List Bucket) (q p : Waiting) (now : Contents) (to number : ℕ)
-    → kept region commands clock buckets q ≡ now → p.regions ≡ q.regions
+pub tried : (region commands clock : ℕ) (buckets : List Bucket) (q p : Waiting) (jobs : KeptJobs) (now : Contents) (to number : ℕ)
+    → kept region commands clock buckets q jobs ≡ now → p.regions ≡ q.regions
     → ((r : ℕ) (h : History) → IsAccepted q.regions r h (command.Attempt to number) → waiting.IsAfter r q h
     → waiting.IsAfter r p (command.Attempt to number ∷ h))
-    → Applies (command.Attempt to number) now (kept region (commands + 1) clock buckets p)
-tried region commands clock buckets q p now to number view many queues =
-    subst (λ (old : Contents). Applies (command.Attempt to number) old (kept region (commands + 1) clock buckets p)) view (record {
-      after = λ h a ok. as_many region (commands + 1) clock buckets p q (command.Attempt to number ∷ h) many
-          (after-attempt (kept region commands clock buckets q) h to number p.outbox p.inbox a ok
+    → Applies (command.Attempt to number) now (kept region (commands + 1) clock buckets p jobs)
+tried region commands clock buckets q p jobs now to number view many queues =
+    subst (λ (old : Contents). Applies (command.Attempt to number) old (kept region (commands + 1) clock buckets p jobs)) view (record {
+      after = λ h a ok. as_many region (commands + 1) clock buckets p q jobs (command.Attempt to number ∷ h) many
+          (after-attempt (kept region commands clock buckets q jobs) h to number p.outbox p.inbox a ok
           (queues-now region p q (command.Attempt to number ∷ h) many (queues region h ok a.queues)));
       count = refl;
       region = refl;

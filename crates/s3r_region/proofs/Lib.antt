@@ -7,7 +7,11 @@ mod Tasks
 mod Receives
 mod Steps
 mod Prescribed
+mod KeptJobs
+mod FoundJobs
 mod Applied
+mod AboutJobs
+mod LineWrites
 pub mod Views
 mod Received
 pub mod Counts

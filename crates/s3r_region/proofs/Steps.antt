@@ -28,6 +28,8 @@ use Rattle.s3r_history.specs.BucketView.{BucketView}
 use Rattle.s3r_history.specs.Told.{told, told_of}
 use Rattle.s3r_history.specs.Kept.{QueuesAfter, push_all}
 use Rattle.s3r_history.specs.Laws.{is_once}
+use Rattle.s3r_history.specs.Jobs.{jobs_at}
+use Rattle.s3r_jobs.specs.Jobs.{reports_to}
 use Rattle.s3r_history.specs.Accepts.{refusal, first_of_causes, in_bucket, in_version, under_hold, of_removal, of_creation, of_deletion}
 use Rattle.s3r_history.proofs.Versions.{length-deeds}
 use Rattle.s3r_history.proofs.Ahead.{IsWithin}
@@ -40,6 +42,8 @@ use Rattle.s3r_region.specs.declared.bucket.Bucket.{Bucket}
 use Rattle.s3r_region.specs.declared.change.Change.{Change}
 use Rattle.s3r_region.specs.declared.change.Change.TheVariants as change
 use Rattle.s3r_region.specs.Contents.{Contents, is_named, names_of}
+use Rattle.s3r_region.specs.KeptJobs.{KeptJobs}
+use Rattle.s3r_region.specs.KeptJobs as jobs
 use Rattle.s3r_region.specs.After.{told_by, seen_bucket, seen, IsAfter}
 use Rattle.s3r_region.specs.Changes.{set_first, without_first, changed, changed_if, new_bucket, with_change, next_stamp}
 use Rattle.s3r_region.specs.Receives.{change_by}
@@ -65,7 +69,7 @@ keeps_name (change.Versioning enabled) x = refl
 keeps_name (change.Replication config) x = refl
 
 -- the tasks after a command that receives, settles and tries nothing, and sends this
-pushed : (s : Contents) (h : History) (c : Command) (sends : List Sent) → IsAfter s h → IsPlain c → IsWithin (deeds s.region h) c
+pub pushed : (s : Contents) (h : History) (c : Command) (sends : List Sent) → IsAfter s h → IsPlain c → IsWithin (deeds s.region h) c
     → sends ≡ effects_after s.region h c → QueuesAfter s.region s.regions (push_all (s.commands + 1) sends s.outbox) s.inbox (c ∷ h)
 pushed s h c sends a plain within these =
     subst (λ (o : List (List (Task Prescribed))). QueuesAfter s.region s.regions o s.inbox (c ∷ h))
@@ -73,12 +77,15 @@ pushed s h c sends a plain within these =
     ∙ ap (λ (xs : List Sent). push_all (s.commands + 1) xs s.outbox) (sym these))
     (queues-push s.region s.regions s.outbox s.inbox h c plain within a.queues)
 
--- The state after a command that changes what is told of its bucket by f, under the clock's number n, and sends this.
-after-change : (s : Contents) (h : History) (name : Name) (ch : Change) (f : BucketView → BucketView) (c : Command) (n : ℕ) (sends : List Sent) → IsAfter s h
+-- The state after a command that changes what is told of its bucket by f, under the clock's number n, and sends this, and of whose
+-- jobs this is kept.
+pub after-change : (s : Contents) (h : History) (name : Name) (ch : Change) (f : BucketView → BucketView) (c : Command) (n : ℕ) (sends : List Sent)
+    → IsAfter s h
     → refusal s.regions s.region h c ≡ None → IsPlain c → IsWithin (deeds s.region h) c
     → ((x : Bucket) → told_by (changed ch x) ≡ f (told_by x)) → ((b : Name) → told s.region (c ∷ h) b ≡ changed_at name f (told s.region h) b)
-    → names (c ∷ h) ≡ names h → n ≡ clock (deeds s.region (c ∷ h)) → sends ≡ effects_after s.region h c → IsAfter (with_change s name ch n sends) (c ∷ h)
-after-change s h name ch f c n sends a accepted plain within shows tells same counts these = record {
+    → names (c ∷ h) ≡ names h → n ≡ clock (deeds s.region (c ∷ h)) → sends ≡ effects_after s.region h c → (kept : KeptJobs) → jobs.IsAfter s.region kept (c ∷ h)
+    → IsAfter (record (with_change s name ch n sends) { jobs = kept }) (c ∷ h)
+after-change s h name ch f c n sends a accepted plain within shows tells same counts these kept go_on = record {
   commands = ap (λ m. m + 1) a.commands ∙ add-one (length h);
   clock = counts;
   buckets = λ b.
@@ -89,6 +96,7 @@ after-change s h name ch f c n sends a accepted plain within shows tells same co
   once = ap is_once (names-set_first name (changed ch) (keeps_name ch) s.buckets) ∙ a.once;
   some = a.some;
   queues = pushed s h c sends a plain within these;
+  jobs = go_on;
   there = there-kept s.regions s.region h c accepted a.there;
   beyond = beyond-kept s.regions s.region h c a.some a.there a.beyond;
 }
@@ -96,11 +104,11 @@ after-change s h name ch f c n sends a accepted plain within shows tells same co
 next_clock : (m : ℕ) → m ≤ min (m + 1) 18446744073709551615 → min (m + 1) 18446744073709551615 ≡ max (min (m + 1) 18446744073709551615) m
 next_clock m h = omega (arith, h)
 
-zero_max : (n : ℕ) → n ≡ max 0 n
+pub zero_max : (n : ℕ) → n ≡ max 0 n
 zero_max n = omega arith
 
 -- the clock after a command that writes
-writes_clock : (s : Contents) (h : History) → IsAfter s h → s.clock ≤ (next_stamp s).n
+pub writes_clock : (s : Contents) (h : History) → IsAfter s h → s.clock ≤ (next_stamp s).n
     → (next_stamp s).n ≡ max (history.next_stamp s.region (deeds s.region h)).n (clock (deeds s.region h))
 writes_clock s h a above =
     ap (λ (stamp : Stamp). stamp.n) (stamp-is s h a)
@@ -120,7 +128,7 @@ after-put s h name key tags hold class body sends a accepted above these =
     (λ x. refl)
     (λ b. told-put s.region h name key tags hold class body b ∙ ap (λ (stamp : Stamp). changed_at name (add_row (version stamp key tags hold class body))
     (told s.region h) b) (sym (stamp-is s h a)))
-    refl (writes_clock s h a above) these
+    refl (writes_clock s h a above) these s.jobs a.jobs
 
 pub after-marker : (s : Contents) (h : History) (name key : Name) (sends : List Sent) → IsAfter s h
     → refusal s.regions s.region h (command.Marker name key) ≡ None → s.clock ≤ (next_stamp s).n → sends ≡ effects_after s.region h (command.Marker name key)
@@ -130,7 +138,7 @@ after-marker s h name key sends a accepted above these =
     accepted (record { settles = λ d. refl; tries = λ d. refl; receives = λ s. refl }) tt
     (λ x. refl)
     (λ b. told-marker s.region h name key b ∙ ap (λ (stamp : Stamp). changed_at name (add_row (marker stamp key)) (told s.region h) b) (sym (stamp-is s h a)))
-    refl (writes_clock s h a above) these
+    refl (writes_clock s h a above) these s.jobs a.jobs
 
 pub after-tags : (s : Contents) (h : History) (name key : Name) (id : VersionId) (tags : List Tag) (sends : List Sent) → IsAfter s h
     → refusal s.regions s.region h (command.SetTags name key id tags) ≡ None → s.clock ≤ (next_stamp s).n
@@ -142,7 +150,7 @@ after-tags s h name key id tags sends a accepted above these =
     (λ x. refl)
     (λ b. told-tags s.region h name key id tags b ∙ ap (λ (stamp : Stamp). changed_at name (write_tags key id stamp tags) (told s.region h) b)
     (sym (stamp-is s h a)))
-    refl (writes_clock s h a above) these
+    refl (writes_clock s h a above) these s.jobs a.jobs
 
 pub after-hold : (s : Contents) (h : History) (name key : Name) (id : VersionId) (hold : Bool) (sends : List Sent) → IsAfter s h
     → refusal s.regions s.region h (command.SetHold name key id hold) ≡ None → s.clock ≤ (next_stamp s).n
@@ -154,7 +162,7 @@ after-hold s h name key id hold sends a accepted above these =
     (λ x. refl)
     (λ b. told-hold s.region h name key id hold b ∙ ap (λ (stamp : Stamp). changed_at name (write_hold key id stamp hold) (told s.region h) b)
     (sym (stamp-is s h a)))
-    refl (writes_clock s h a above) these
+    refl (writes_clock s h a above) these s.jobs a.jobs
 
 -- ---- a change that sends nothing
 
@@ -164,7 +172,7 @@ pub after-switch : (s : Contents) (h : History) (name : Name) (enabled : Bool) �
 after-switch s h name enabled a accepted =
     after-change s h name (change.Versioning enabled) (switch enabled) (command.SetVersioning name enabled) s.clock [] a accepted
     (record { settles = λ d. refl; tries = λ d. refl; receives = λ s. refl }) tt
-    (λ x. refl) (told-switch s.region h name enabled) refl (a.clock ∙ zero_max (clock (deeds s.region h))) refl
+    (λ x. refl) (told-switch s.region h name enabled) refl (a.clock ∙ zero_max (clock (deeds s.region h))) refl s.jobs a.jobs
 
 pub after-replicate : (s : Contents) (h : History) (name : Name) (config : List Rule) (regions : List ℕ) → IsAfter s h
     → refusal s.regions s.region h (command.SetReplication name config regions) ≡ None
@@ -174,14 +182,14 @@ after-replicate s h name config regions a accepted =
     after-change s h name (change.Replication (Some (record { config = config; regions = regions })))
     (configure (Some (record { config = config; regions = regions }))) (command.SetReplication name config regions) s.clock [] a accepted
     (record { settles = λ d. refl; tries = λ d. refl; receives = λ s. refl }) tt
-    (λ x. refl) (told-replicate s.region h name config regions) refl (a.clock ∙ zero_max (clock (deeds s.region h))) refl
+    (λ x. refl) (told-replicate s.region h name config regions) refl (a.clock ∙ zero_max (clock (deeds s.region h))) refl s.jobs a.jobs
 
 pub after-drop : (s : Contents) (h : History) (name : Name) → IsAfter s h → refusal s.regions s.region h (command.DropReplication name) ≡ None
     → IsAfter (with_change s name (change.Replication None) s.clock []) (command.DropReplication name ∷ h)
 after-drop s h name a accepted =
     after-change s h name (change.Replication None) (configure None) (command.DropReplication name) s.clock [] a accepted
     (record { settles = λ d. refl; tries = λ d. refl; receives = λ s. refl }) tt
-    (λ x. refl) (told-drop s.region h name) refl (a.clock ∙ zero_max (clock (deeds s.region h))) refl
+    (λ x. refl) (told-drop s.region h name) refl (a.clock ∙ zero_max (clock (deeds s.region h))) refl s.jobs a.jobs
 
 -- a bucket from which a version is removed, perhaps one that isn't there
 abbrev drop_row : Name → VersionId → BucketView → BucketView
@@ -206,7 +214,7 @@ after-remove s h name key id a accepted =
     (record { settles = λ d. refl; tries = λ d. refl; receives = λ s. refl }) tt
     (λ x. refl)
     (λ b. told-remove s.region h name key id b ∙ go b (bytes_eq name b) (bytes_eq-Decides name b).0)
-    refl (a.clock ∙ zero_max (clock (deeds s.region h))) refl
+    refl (a.clock ∙ zero_max (clock (deeds s.region h))) refl s.jobs a.jobs
   where
     go : (b : Name) (t : Bool) → (t ≡ true → name ≡ b) → cond t (option_map (remove_row key id) (told s.region h b)) (told s.region h b) ≡ cond t
         (option_map (drop_row key id) (told s.region h b)) (told s.region h b)
@@ -238,10 +246,11 @@ not_there r h name none = go (bucket h name) none
     go (Some at) e = absurd cc
 
 -- a bucket that is deleted is there
-there : (r : ℕ) (h : History) (name : Name) → first_of_causes (in_bucket of_deletion (told r h name)) ≡ None → is_there h name ≡ true
-there r h name accepted = go (bucket h name) accepted
+there : (r : ℕ) (h : History) (name : Name) (reported : Bool) → first_of_causes (in_bucket (of_deletion reported) (told r h name)) ≡ None
+    → is_there h name ≡ true
+there r h name reported accepted = go (bucket h name) accepted
   where
-    go : (at : Option Facts) → first_of_causes (in_bucket of_deletion (option_map (told_of r h name) at)) ≡ None → is_some at ≡ true
+    go : (at : Option Facts) → first_of_causes (in_bucket (of_deletion reported) (option_map (told_of r h name) at)) ≡ None → is_some at ≡ true
     go None e = absurd cc
     go (Some at) e = refl
 
@@ -260,6 +269,7 @@ after-create s h name locked a accepted = record {
       (none-named name s.buckets (a.buckets name ∙ unknown));
   some = a.some;
   queues = pushed s h (command.CreateBucket name locked) [] a (record { settles = λ d. refl; tries = λ d. refl; receives = λ s. refl }) tt refl;
+  jobs = a.jobs;
   there = there-kept s.regions s.region h (command.CreateBucket name locked) accepted a.there;
   beyond = beyond-kept s.regions s.region h (command.CreateBucket name locked) a.some a.there a.beyond;
 }
@@ -267,9 +277,9 @@ after-create s h name locked a accepted = record {
     unknown : told s.region h name ≡ None
     unknown = free s.region h name (length (names h)) accepted
 
-is_told : (at : Option BucketView) → first_of_causes (in_bucket of_deletion at) ≡ None → is_some at ≡ true
-is_told None e = absurd cc
-is_told (Some t) e = refl
+is_told : (reported : Bool) (at : Option BucketView) → first_of_causes (in_bucket (of_deletion reported) at) ≡ None → is_some at ≡ true
+is_told reported None e = absurd cc
+is_told reported (Some t) e = refl
 
 is_found : (o : Option Bucket) (at : Option BucketView) → option_map told_by o ≡ at → is_some at ≡ true → is_some o ≡ true
 is_found None None e h = h
@@ -290,11 +300,12 @@ after-delete s h name a accepted = record {
       ∙ sym (told-delete s.region h name b);
   count = one_less (length s.buckets) (length (without_first (is_named name) s.buckets)) (length (names (command.DeleteBucket name ∷ h)))
       (length-without_first (is_named name) s.buckets (is_found (seen_bucket s name) (told s.region h name) (a.buckets name)
-      (is_told (told s.region h name) accepted)))
-      (a.count ∙ names-delete h name (there s.region h name accepted));
+      (is_told (reports_to name (jobs_at (deeds s.region h)).live) (told s.region h name) accepted)))
+      (a.count ∙ names-delete h name (there s.region h name (reports_to name (jobs_at (deeds s.region h)).live) accepted));
   once = once-without name s.buckets a.once;
   some = a.some;
   queues = pushed s h (command.DeleteBucket name) [] a (record { settles = λ d. refl; tries = λ d. refl; receives = λ s. refl }) tt refl;
+  jobs = a.jobs;
   there = there-kept s.regions s.region h (command.DeleteBucket name) accepted a.there;
   beyond = beyond-kept s.regions s.region h (command.DeleteBucket name) a.some a.there a.beyond;
 }
@@ -329,6 +340,7 @@ after-receive s h from number e outcome outbox inbox a accepted came queues = re
   once = names (is_applied outcome) ∙ a.once;
   some = a.some;
   queues = queues;
+  jobs = a.jobs;
   there = there-kept s.regions s.region h (command.Receive from number e) accepted a.there;
   beyond = beyond-kept s.regions s.region h (command.Receive from number e) a.some a.there a.beyond;
 }
@@ -370,6 +382,7 @@ after-settle s h to number outcome outbox inbox a accepted queues = record {
   once = a.once;
   some = a.some;
   queues = queues;
+  jobs = a.jobs;
   there = there-kept s.regions s.region h (command.Settle to number outcome) accepted a.there;
   beyond = beyond-kept s.regions s.region h (command.Settle to number outcome) a.some a.there a.beyond;
 }
@@ -385,6 +398,7 @@ after-attempt s h to number outbox inbox a accepted queues = record {
   once = a.once;
   some = a.some;
   queues = queues;
+  jobs = a.jobs;
   there = there-kept s.regions s.region h (command.Attempt to number) accepted a.there;
   beyond = beyond-kept s.regions s.region h (command.Attempt to number) a.some a.there a.beyond;
 }

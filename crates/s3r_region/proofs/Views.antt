@@ -1,5 +1,5 @@
 -- What a state tells is what its history tells.
-use Rattle.std.proofs.Common.{◌≡◌, ℕ, zero, suc, ◌<◌, ◌≤◌, Bool, true, false, cond, not, ◌&&◌, ◌||◌, nat_lt, nat_le, is_some, List, [], ◌∷◌, ◌++◌, Option, Some, None, map, filter, length, refl, sym, ap, ◌∙◌, arith, ltb-true}
+use Rattle.std.proofs.Common.{◌≡◌, ℕ, zero, suc, ◌<◌, ◌≤◌, Bool, true, false, cond, not, ◌&&◌, ◌||◌, nat_lt, nat_le, is_some, List, [], ◌∷◌, ◌++◌, Option, Some, None, map, filter, length, refl, sym, ap, ◌∙◌, arith, ltb-true, ap₂, is_none}
 use Rattle.std.specs.Prelude.{option_map}
 use Rattle.std.specs.List.{list_any}
 use Rattle.std.specs.Option.{option_and_then}
@@ -28,12 +28,21 @@ use Rattle.s3r_history.specs.Tasks.{tasks_from, placed_tasks, tasks_to}
 use Rattle.s3r_history.specs.Statuses as history
 use Rattle.s3r_history.specs.RegionView as told_by
 use Rattle.s3r_history.specs.Statuses.{is_about, is_followed_by, last_to_each, tasks_beyond}
-use Rattle.s3r_history.specs.RegionView.{RegionView, view}
+use Rattle.s3r_history.specs.RegionView.{view}
 use Rattle.s3r_history.specs.Accepts.{Cause, causes, first_of_causes, refusal, in_bucket, of_creation, of_deletion, of_switch, beyond, unless_beyond, of_configuration, of_dropping, of_put, of_marker, of_removal, of_tags, of_hold, in_region, of_receipt, of_task}
+use Rattle.s3r_history.specs.Accepts.{in_version, of_job, of_token, takes_none, lacks_report, lacks_target, of_manifest, in_job, of_move, of_priority, of_preparing, of_line, of_finish}
+use Rattle.s3r_history.specs.declared.refusal.Refusal.{Refusal}
+use Rattle.s3r_history.specs.Jobs.{jobs_at}
+use Rattle.s3r_jobs.specs.declared.spec.JobSpec.{JobSpec}
+use Rattle.s3r_jobs.specs.declared.spec.ReportSpec.{ReportSpec}
+use Rattle.s3r_jobs.specs.declared.spec.Operation.{Operation}
+use Rattle.s3r_jobs.specs.declared.spec.Operation.TheVariants as operations
+use Rattle.s3r_jobs.specs.Jobs.{JobsFacts, find_job, token_job, reports_to}
+use Rattle.s3r_rules.specs.declared.fault.Kind.TheVariants as kinds
 use Rattle.s3r_history.proofs.QueueSteps.{same-first, length-placed}
 use Rattle.s3r_region.specs.Contents.{Contents}
-use Rattle.s3r_region.specs.After.{IsAfter}
-use Rattle.s3r_region.specs.Status.{outdoes, decides, worse, worse_of, worst, one, row_status}
+use Rattle.s3r_region.specs.After.{IsAfter, seen}
+use Rattle.s3r_region.specs.Status.{decides, worse, worse_of, worst, one, row_status}
 use Rattle.s3r_region.specs.Status as kept
 use Rattle.s3r_region.specs.View.{status_in, seen_status, seen_next, seen_last, seen_view}
 
@@ -159,12 +168,41 @@ in-region-same n r more other same = go (nat_le n r) refl
     go true e = refl
     go false e = same (grind (arith, e, nat_tests))
 
+-- a report's bucket, and a copy's, are missed where the history misses them
+report-same : (s : Contents) (h : History) → IsAfter s h → (report : Option ReportSpec)
+    → lacks_report (seen_view s) report ≡ lacks_report (view s.region h) report
+report-same s h a None = refl
+report-same s h a (Some report) = ap takes_none (a.buckets report.bucket)
+
+target-same : (s : Contents) (h : History) → IsAfter s h → (operation : Operation)
+    → lacks_target (seen_view s) operation ≡ lacks_target (view s.region h) operation
+target-same s h a (operations.Copy target prefix) = ap is_none (a.buckets target)
+target-same s h a (operations.Tagging tags) = refl
+target-same s h a (operations.Hold hold) = refl
+target-same s h a operations.Replicate = refl
+
+job-same : (s : Contents) (h : History) → IsAfter s h → (spec : JobSpec) (manifest : VersionId) (at : Option BucketView)
+    → first_of_causes (in_bucket (of_job (seen_view s) spec manifest) at) ≡ first_of_causes (in_bucket (of_job (view s.region h) spec manifest) at)
+job-same s h a spec manifest None = refl
+job-same s h a spec manifest (Some at) =
+    ap (λ (js : JobsFacts). asked js (lacks_report (seen_view s) spec.report) (lacks_target (seen_view s) spec.operation)) a.jobs.0
+    ∙ ap₂ (λ report target. asked (jobs_at (deeds s.region h)) report target) (report-same s h a spec.report) (target-same s h a spec.operation)
+  where
+    asked : JobsFacts → Bool → Bool → Option Refusal
+    asked js report target = first_of_causes (of_token s.region (token_job spec.token js)
+        ((report, refusals.InvalidRequest 0 kinds.Report) ∷ (target, refusals.InvalidRequest 0 kinds.Target)
+        ∷ in_version (of_manifest js) (find_version spec.manifest.key manifest at.rows)))
+
 pub causes-same : (s : Contents) (h : History) → IsAfter s h → (c : Command)
     → first_of_causes (causes s.regions (seen_view s) c) ≡ refusal s.regions s.region h c
 causes-same s h a (command.CreateBucket name locked) =
     ap (λ at. first_of_causes (of_creation at (length s.buckets))) (a.buckets name) ∙ ap (λ n. first_of_causes (of_creation (told s.region h name) n)) a.count
-causes-same s h a (command.DeleteBucket name) = ap (λ at. first_of_causes (in_bucket of_deletion at)) (a.buckets name)
-causes-same s h a (command.SetVersioning name enabled) = ap (λ at. first_of_causes (in_bucket (of_switch enabled) at)) (a.buckets name)
+causes-same s h a (command.DeleteBucket name) =
+    ap (λ at. first_of_causes (in_bucket (of_deletion (reports_to name s.jobs.jobs.live)) at)) (a.buckets name)
+    ∙ ap (λ (js : JobsFacts). first_of_causes (in_bucket (of_deletion (reports_to name js.live)) (told s.region h name))) a.jobs.0
+causes-same s h a (command.SetVersioning name enabled) =
+    ap (λ at. first_of_causes (in_bucket (of_switch enabled (reports_to name s.jobs.jobs.live)) at)) (a.buckets name)
+    ∙ ap (λ (js : JobsFacts). first_of_causes (in_bucket (of_switch enabled (reports_to name js.live)) (told s.region h name))) a.jobs.0
 causes-same s h a (command.SetReplication name config regions) =
     ap (λ at. first_of_causes (unless_beyond (in_bucket of_configuration at) (beyond s.regions regions))) (a.buckets name)
 causes-same s h a (command.DropReplication name) = ap (λ at. first_of_causes (in_bucket of_dropping at)) (a.buckets name)
@@ -178,3 +216,11 @@ causes-same s h a (command.Receive from number effect) =
     (λ lt. ap (λ o. first_of_causes (of_receipt number (queue.watermark_of o))) (a.queues.last from lt))
 causes-same s h a (command.Settle to number outcome) = ap (λ n. first_of_causes (in_region s.regions to (of_task number n))) (next-is s h a to)
 causes-same s h a (command.Attempt to number) = ap (λ n. first_of_causes (in_region s.regions to (of_task number n))) (next-is s h a to)
+causes-same s h a (command.CreateJob spec manifest) =
+    job-same s h a spec manifest (seen s spec.manifest.bucket)
+    ∙ ap (λ at. first_of_causes (in_bucket (of_job (view s.region h) spec manifest) at)) (a.buckets spec.manifest.bucket)
+causes-same s h a (command.MoveJob job to) = ap (λ (js : JobsFacts). first_of_causes (in_job (of_move js to) (find_job job js))) a.jobs.0
+causes-same s h a (command.SetPriority job priority) = ap (λ (js : JobsFacts). first_of_causes (in_job of_priority (find_job job js))) a.jobs.0
+causes-same s h a (command.Prepare job) = ap (λ (js : JobsFacts). first_of_causes (in_job of_preparing (find_job job js))) a.jobs.0
+causes-same s h a (command.Line job line) = ap (λ (js : JobsFacts). first_of_causes (in_job (of_line line) (find_job job js))) a.jobs.0
+causes-same s h a (command.Finish job body) = ap (λ (js : JobsFacts). first_of_causes (in_job (of_finish body) (find_job job js))) a.jobs.0

@@ -10,6 +10,7 @@ use Rattle.s3r_history.specs.Laws.{is_once}
 use Rattle.s3r_history.specs.Kept.{QueuesAfter}
 use Rattle.s3r_history.specs.Beyond.{AreThere, NoneBeyond}
 use Rattle.s3r_region.specs.declared.bucket.Bucket.{Bucket}
+use Rattle.s3r_region.specs.KeptJobs as jobs
 use Rattle.s3r_region.specs.Contents.{Contents, is_named, names_of}
 
 -- what a bucket of a state tells
@@ -33,6 +34,7 @@ pub record IsAfter (s : Contents) (h : History) : Type 0 where
   pub once : is_once (names_of s.buckets) ≡ true
   pub some : 1 ≤ s.regions
   pub queues : QueuesAfter s.region s.regions s.outbox s.inbox h
+  pub jobs : jobs.IsAfter s.region s.jobs h
   -- no configuration names a region that isn't there, and nothing was prescribed to one
   pub there : AreThere s.regions h
   pub beyond : NoneBeyond s.regions (deeds s.region h)

@@ -11,6 +11,7 @@ use Rattle.s3r_history.specs.Words.{Name}
 use Rattle.s3r_history.specs.Past.{Entry}
 use Rattle.s3r_history.specs.Judging.{is_ahead}
 use Rattle.s3r_region.specs.declared.bucket.Bucket.{Bucket}
+use Rattle.s3r_region.specs.KeptJobs.{KeptJobs}
 
 pub record Contents : Type 0 where
   pub region : ℕ
@@ -24,6 +25,7 @@ pub record Contents : Type 0 where
   pub outbox : List (List (Task Prescribed))
   -- what was received last from each region
   pub inbox : List (Option Noted)
+  pub jobs : KeptJobs
 
 abbrev pub is_named : Name → Bucket → Bool
 is_named name bucket = bytes_eq bucket.name name

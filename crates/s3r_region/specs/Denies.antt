@@ -1,6 +1,9 @@
 -- Whether a command is accepted.
 use Rattle.std.specs.Prelude.{◌≡◌, Option, Some, None, Result, Ok, Err}
 use Rattle.std.specs.Borrow.{Bor}
+use Rattle.s3r_jobs.specs.declared.any.AnyJob.{AnyJob}
+use Rattle.s3r_jobs.specs.Any.{facts}
+use Rattle.s3r_jobs.specs.Facts.{JobFacts}
 use Rattle.s3r_history.specs.declared.refusal.Refusal.{Refusal}
 use Rattle.s3r_history.specs.declared.refusal.Refusal.TheVariants as refusals
 use Rattle.s3r_history.specs.BucketView.{BucketView}
@@ -20,3 +23,9 @@ abbrev pub Gives : Option BucketView → Result (Bor Bucket) Deny → Type 0
 Gives at (Ok bucket) = at ≡ Some (told_by bucket.now)
 Gives at (Err (Refused refusal)) = (at ≡ None) × (refusal ≡ refusals.NoSuchBucket)
 Gives at (Err OutOfMemory) = ⊥
+
+-- the job that is there, or the refusal of one that isn't
+abbrev pub GivesJob : Option JobFacts → Result (Bor AnyJob) Deny → Type 0
+GivesJob found (Ok job) = found ≡ Some (facts job.now)
+GivesJob found (Err (Refused refusal)) = (found ≡ None) × (refusal ≡ refusals.NoSuchJob)
+GivesJob found (Err OutOfMemory) = ⊥

@@ -1,11 +1,14 @@
 pub mod Waiting
+pub mod KeptJobs
 pub mod Contents
 pub mod After
 pub mod Changes
 pub mod Receives
 pub mod Prescribing
 pub mod Written
+pub mod Writing
 pub mod Status
 pub mod View
+pub mod JobLine
 pub mod Applies
 pub mod Denies

@@ -28,4 +28,12 @@ abbrev pub seen_status : Contents → Name → Name → VersionId → Option Sta
 seen_status s b key id = option_and_then (status_in s b key id) (seen s b)
 
 abbrev pub seen_view : Contents → RegionView
-seen_view s = record { bucket = seen s; count = length s.buckets; last = seen_last s; next = seen_next s; status = seen_status s }
+seen_view s = record {
+  region = s.region;
+  bucket = seen s;
+  count = length s.buckets;
+  last = seen_last s;
+  next = seen_next s;
+  status = seen_status s;
+  jobs = s.jobs.jobs;
+}

@@ -8,6 +8,7 @@ ghost use Rattle.s3r_region.specs.After.{IsAfter, told_by, seen};
 ghost use Rattle.s3r_region.specs.View.{seen_view, seen_last, seen_next};
 ghost use Rattle.s3r_region.specs.Denies.{Accepts, Gives};
 
+use crate::accepting_jobs::{may_do_line, may_finish, may_prepare, may_set_priority};
 use crate::{Bucket, Deny, State};
 use s3r_history::Refusal;
 use s3r_names::{BucketName, Bytes, Key, VersionId};
@@ -16,22 +17,24 @@ use s3r_record::Command;
 /// The most buckets of a region.
 const MOST_BUCKETS: usize = 100;
 
-/// Whether the bucket may be deleted.
-pub(crate) fn may_delete(bucket: &Bucket) -> Result<(), Deny>
-    ensures { Accepts (first_of_causes (of_deletion (told_by bucket.now))) result }
+/// Whether the bucket may be deleted, where a job may report to it.
+fn may_delete(bucket: &Bucket, reported: bool) -> Result<(), Deny>
+    ensures { Accepts (first_of_causes (of_deletion reported (told_by bucket.now))) result }
 {
-    if bucket.rows.is_empty() {
-        Ok(())
-    } else {
-        Err(Deny::Refused(Refusal::BucketNotEmpty))
+    if !bucket.rows.is_empty() {
+        return Err(Deny::Refused(Refusal::BucketNotEmpty));
     }
+    if reported {
+        return Err(Deny::Refused(Refusal::InvalidBucketState));
+    }
+    Ok(())
 }
 
-/// Whether its versioning may be switched so.
-pub(crate) fn may_switch(bucket: &Bucket, enabled: bool) -> Result<(), Deny>
-    ensures { Accepts (first_of_causes (of_switch enabled (told_by bucket.now))) result }
+/// Whether its versioning may be switched so, where a job may report to it.
+fn may_switch(bucket: &Bucket, enabled: bool, reported: bool) -> Result<(), Deny>
+    ensures { Accepts (first_of_causes (of_switch enabled reported (told_by bucket.now))) result }
 {
-    if !enabled && (bucket.config.is_some() || bucket.locked) {
+    if !enabled && (bucket.config.is_some() || bucket.locked || reported) {
         return Err(Deny::Refused(Refusal::InvalidBucketState));
     }
     Ok(())
@@ -151,8 +154,12 @@ impl State {
     {
         match command {
             Command::CreateBucket { name, .. } => self.may_create(name),
-            Command::DeleteBucket { name } => may_delete(self.there(name)?),
-            Command::SetVersioning { name, enabled } => may_switch(self.there(name)?, *enabled),
+            Command::DeleteBucket { name } => {
+                may_delete(self.there(name)?, self.jobs().reports_to(name))
+            }
+            Command::SetVersioning { name, enabled } => {
+                may_switch(self.there(name)?, *enabled, self.jobs().reports_to(name))
+            }
             Command::SetReplication { name, regions, .. } => {
                 are_there(regions, self.regions())?;
                 may_configure(self.there(name)?)
@@ -177,11 +184,17 @@ impl State {
             Command::Settle { to, number, .. } | Command::Attempt { to, number } => {
                 self.may_end(*to, *number)
             }
+            Command::CreateJob { spec, manifest } => self.may_create_job(spec, *manifest),
+            Command::MoveJob { job, state } => self.may_move_job(*job, *state),
+            Command::SetPriority { job, .. } => may_set_priority(self.job(*job)?),
+            Command::Prepare { job } => may_prepare(self.job(*job)?),
+            Command::Line { job, line } => may_do_line(self.job(*job)?, *line),
+            Command::Finish { job, body } => may_finish(self.job(*job)?, body),
         }
     }
 
     /// The bucket of this name, or the refusal of one that isn't there.
-    fn there(&self, name: &BucketName) -> Result<&Bucket, Deny>
+    pub(crate) fn there(&self, name: &BucketName) -> Result<&Bucket, Deny>
         ensures { Gives (seen self.now name.now) result }
     {
         match self.bucket(name) {

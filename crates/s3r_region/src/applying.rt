@@ -73,6 +73,21 @@ impl State {
                 self.attempt(to, number);
                 Ok(())
             }
+            Command::CreateJob { spec, manifest } => self.create_job(alloc, spec, manifest),
+            Command::MoveJob { job, state } => {
+                self.move_job(job, state);
+                Ok(())
+            }
+            Command::SetPriority { job, priority } => {
+                self.set_priority(job, priority);
+                Ok(())
+            }
+            Command::Prepare { job } => self.prepare(alloc, job),
+            Command::Line { job, line } => self.do_line(alloc, job, line),
+            Command::Finish { job, .. } => {
+                self.finish(job);
+                Ok(())
+            }
         }
     }
 }

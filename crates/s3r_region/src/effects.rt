@@ -2,6 +2,7 @@
 
 ghost use Rattle.std.specs.Prelude.{◌≡◌, ◌+◌, ◌<◌, ◌≤◌, ◌^◌, IfOk, length};
 ghost use Rattle.s3r_record.specs.Spelling.{MeetsLimits};
+ghost use Rattle.s3r_record.specs.declared.command.Command.{Command};
 ghost use Rattle.s3r_history.specs.Words.{History};
 ghost use Rattle.s3r_history.specs.Deeds.{version, marker, effects_after};
 ghost use Rattle.s3r_region.specs.After.{IsAfter, seen};
@@ -10,6 +11,7 @@ ghost use Rattle.s3r_region.specs.Prescribing.{sends_at};
 ghost use Rattle.s3r_region.specs.Prescribing as prescribing;
 
 use crate::State;
+use crate::job_line::LineWrite;
 use crate::object::stored;
 use crate::prescribing::Written;
 use crate::version::new_marker;
@@ -63,6 +65,38 @@ impl State {
         self.sends_of_row(alloc, bucket, &Written::Marker(&row))
     }
 
+    /// What a line of a job sends.
+    fn sends_of_line(&self, alloc: Global, job: u64, line: u32) -> Result<Vec<Sent>, AllocError>
+        requires few { self.now.commands + 1 < 2 ^ 64 }
+        requires line { 1 ≤ line }
+        ensures { IfOk result (λ sends. (h : History) → IsAfter self.now h
+            → sends.items ≡ effects_after self.now.region h (Command.Line job line)) }
+    {
+        match self.outcome_of_line(job, line)? {
+            Some(
+                Ok(
+                    LineWrite::Tags {
+                        bucket,
+                        key,
+                        id,
+                        tags,
+                    },
+                ),
+            ) => self.sends_of_tags(alloc, &bucket, &key, id, &tags, self.next_stamp()),
+            Some(
+                Ok(
+                    LineWrite::Hold {
+                        bucket,
+                        key,
+                        id,
+                        hold,
+                    },
+                ),
+            ) => self.sends_of_hold(alloc, &bucket, &key, id, hold, self.next_stamp()),
+            Some(Err(_)) | None => Ok(Vec::new(alloc)),
+        }
+    }
+
     /// What an accepted command prescribes, in the order in which `apply` puts it behind the tasks.
     pub fn effects(&self, alloc: Global, command: &Command) -> Result<Vec<Sent>, AllocError>
         requires few { self.now.commands + 1 < 2 ^ 64 }
@@ -99,7 +133,13 @@ impl State {
             | Command::Remove { .. }
             | Command::Receive { .. }
             | Command::Settle { .. }
-            | Command::Attempt { .. } => Ok(Vec::new(alloc)),
+            | Command::Attempt { .. }
+            | Command::CreateJob { .. }
+            | Command::MoveJob { .. }
+            | Command::SetPriority { .. }
+            | Command::Prepare { .. }
+            | Command::Finish { .. } => Ok(Vec::new(alloc)),
+            Command::Line { job, line } => self.sends_of_line(alloc, *job, *line),
         }
     }
 }

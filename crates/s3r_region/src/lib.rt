@@ -3,11 +3,15 @@
 #![tactic(auto)]
 
 mod accepting;
+mod accepting_jobs;
 mod applying;
 mod bucket;
 mod change;
 mod configuring;
 mod effects;
+mod job;
+mod job_line;
+mod job_steps;
 mod judging;
 mod legal_hold;
 mod object;
@@ -16,6 +20,7 @@ mod prescribing;
 mod pushing;
 mod queues;
 mod receiving;
+mod region_jobs;
 mod sending;
 mod state;
 mod status;

@@ -1,13 +1,16 @@
 //! What a region keeps.
 
-ghost use Rattle.std.specs.Prelude.{◌≡◌, ◌+◌, ◌<◌, ◌≤◌, ◌^◌, IsTrue, IfOk, IfSome, [], ◌∷◌, ◌++◌, OnOk, option_copied};
+ghost use Rattle.std.specs.Prelude.{◌≡◌, ◌+◌, ◌<◌, ◌≤◌, ◌^◌, ℕ, List, Option, Some, IsTrue, IfOk, IfSome, [], ◌∷◌, ◌++◌, OnOk, option_copied, option_map, find};
 ghost use Rattle.s3r_record.specs.Spelling.{IsTask, EffectMeetsLimits};
 ghost use Rattle.s3r_record.specs.declared.command.Command.{Command};
 ghost use Rattle.s3r_history.specs.Words.{History};
-ghost use Rattle.s3r_history.specs.Deeds.{judge};
+ghost use Rattle.s3r_history.specs.Deeds.{deed, deeds, judge};
 ghost use Rattle.s3r_history.specs.Judging.{judged};
 ghost use Rattle.s3r_history.specs.Carried.{target_of};
 ghost use Rattle.s3r_region.specs.Applies.{Applies};
+ghost use Rattle.s3r_region.specs.KeptJobs.{is_of};
+ghost use Rattle.s3r_region.specs.KeptJobs as jobs;
+ghost use Rattle.s3r_region.specs.Waiting.{IsAccepted};
 
 use crate::Bucket;
 use crate::bucket::{bucket_named, change_bucket, change_if_applied, remove_bucket};
@@ -16,8 +19,11 @@ use crate::judging::judged;
 use crate::parts::{carried_n, target_of};
 use crate::queues::Queues;
 use crate::receiving::change_by;
+use crate::region_jobs::RegionJobs;
 use s3r_history::{Prescribed, Refusal, Sent};
-use s3r_names::{BucketName, Bytes, Outcome, Reason, Stamp};
+use s3r_jobs::{FailureReason, JobSpec, JobState, Jobs, LineResult};
+use s3r_lines::Lines;
+use s3r_names::{BucketName, Bytes, Outcome, Reason, Stamp, VersionId};
 use s3r_queue::{Inbox, Outbox};
 use s3r_record::Effect;
 use std::alloc::{AllocError, Global};
@@ -31,7 +37,7 @@ pub enum Deny {
     OutOfMemory,
 }
 
-/// What a region keeps: its buckets, its tasks to others and what it received from them.
+/// What a region keeps: its buckets, its tasks to others, what it received from them, and its jobs.
 #[derive(Drop)]
 pub struct State {
     region: u8,
@@ -39,6 +45,7 @@ pub struct State {
     clock: u64,
     buckets: Vec<Bucket>,
     queues: Queues,
+    jobs: RegionJobs,
 }
 
 impl Model for State {
@@ -55,6 +62,7 @@ impl Model for State {
       buckets = state.buckets.items;
       outbox = state.queues.outbox;
       inbox = state.queues.inbox;
+      jobs = state.jobs;
     } };
 
     ghost invariant = { λ state. (state.region ≤ 7) × IsTrue (are_given state.region state.commands state.buckets.items) };
@@ -82,6 +90,7 @@ impl State {
             clock: 0,
             buckets: Vec::new(alloc),
             queues: Queues::new(alloc, regions)?,
+            jobs: RegionJobs::new(alloc),
         })
     }
 
@@ -261,6 +270,98 @@ impl State {
         ensures { Applies (Command.Attempt to number) self.old self.new }
     {
         self.queues.attempt(to, number);
+        self.commands += 1;
+    }
+
+    /// The jobs.
+    pub fn jobs(&self) -> &Jobs
+        ensures { result.now ≡ self.now.jobs.jobs }
+    {
+        self.jobs.jobs()
+    }
+
+    /// The version of a job's manifest.
+    pub(crate) fn manifest(&self, job: u64) -> Option<VersionId>
+        ensures { result ≡ option_map (λ manifest. manifest.version) (find (is_of job) self.now.jobs.manifests) }
+    {
+        self.jobs.manifest(job)
+    }
+
+    /// A job is created. After an error the state is given up.
+    pub(crate) fn add_job(
+        &mut self,
+        alloc: Global,
+        spec: JobSpec,
+        manifest: VersionId,
+    ) -> Result<(), AllocError>
+        requires { self.old.commands + 1 < 2 ^ 64 }
+        ensures { OnOk result (Applies (Command.CreateJob spec manifest) self.old self.new) }
+    {
+        self.jobs.create(alloc, self.commands + 1, spec, manifest)?;
+        self.commands += 1;
+        Ok(())
+    }
+
+    /// A job moves to a state.
+    pub(crate) fn move_job(&mut self, job: u64, to: JobState)
+        requires { self.old.commands + 1 < 2 ^ 64 }
+        ensures { Applies (Command.MoveJob job to) self.old self.new }
+    {
+        self.jobs.move_to(job, to);
+        self.commands += 1;
+    }
+
+    /// A job's priority is this from now on.
+    pub(crate) fn set_priority(&mut self, job: u64, priority: u32)
+        requires { self.old.commands + 1 < 2 ^ 64 }
+        ensures { Applies (Command.SetPriority job priority) self.old self.new }
+    {
+        self.jobs.set_priority(job, priority);
+        self.commands += 1;
+    }
+
+    /// A job's manifest was read. After an error the state is given up.
+    pub(crate) fn prepare_job(
+        &mut self,
+        alloc: Global,
+        job: u64,
+        lines: Result<Lines, FailureReason>,
+    ) -> Result<(), AllocError>
+        requires few { self.old.commands + 1 < 2 ^ 64 }
+        requires read { (h : History) → IsAfter self.old h → IsAccepted self.old.regions self.old.region h (Command.Prepare job)
+            → (deed self.old.region h (deeds self.old.region h) (Command.Prepare job)).read ≡ Some lines }
+        ensures { OnOk result (Applies (Command.Prepare job) self.old self.new) }
+    {
+        self.jobs.prepare(alloc, job, lines)?;
+        self.commands += 1;
+        Ok(())
+    }
+
+    /// A command is counted that did nothing.
+    pub(crate) fn pass(&mut self)
+        requires { self.old.commands + 1 < 2 ^ 64 }
+        ensures passed { self.new ≡ record self.old { commands = self.old.commands + 1 } }
+        ensures above { self.old.clock ≤ (next_stamp self.old).n }
+    {
+        self.commands += 1;
+    }
+
+    /// The job of a line that was done goes on: the line came to this, or waits.
+    pub(crate) fn go_on(&mut self, job: u64, came: Option<LineResult>)
+        ensures kept { self.new ≡ record self.old { jobs = self.new.jobs } }
+        ensures after { (n r line : ℕ) (h : History) → IsAccepted n r h (Command.Line job line)
+            → (deed r h (deeds r h) (Command.Line job line)).result ≡ came → jobs.IsAfter r self.old.jobs h
+            → jobs.IsAfter r self.new.jobs (Command.Line job line ∷ h) }
+    {
+        self.jobs.go_on(job, came);
+    }
+
+    /// A job ends.
+    pub(crate) fn finish(&mut self, job: u64)
+        requires { self.old.commands + 1 < 2 ^ 64 }
+        ensures { (body : Option (List ℕ)) → Applies (Command.Finish job body) self.old self.new }
+    {
+        self.jobs.finish(job);
         self.commands += 1;
     }
 }

@@ -1,8 +1,10 @@
 //! What new tags do to a state.
 
-ghost use Rattle.std.specs.Prelude.{◌+◌, ◌<◌, ◌^◌, OnOk};
+ghost use Rattle.std.specs.Prelude.{◌≡◌, ◌+◌, ◌<◌, ◌≤◌, ◌^◌, OnOk};
 ghost use Rattle.s3r_record.specs.declared.command.Command.{Command};
 ghost use Rattle.s3r_region.specs.Applies.{Applies};
+ghost use Rattle.s3r_region.specs.Changes.{next_stamp};
+ghost use Rattle.s3r_region.specs.Writing.{tagged};
 
 use crate::State;
 use crate::change::Change;
@@ -20,7 +22,9 @@ impl State {
         tags: TagSet,
     ) -> Result<(), AllocError>
         requires { self.old.commands + 1 < 2 ^ 64 }
-        ensures { OnOk result (Applies (Command.SetTags bucket.now key id tags) self.old self.new) }
+        ensures applied { OnOk result (Applies (Command.SetTags bucket.now key id tags) self.old self.new) }
+        ensures exact { OnOk result (self.new ≡ tagged self.old bucket.now key id tags) }
+        ensures above { self.old.clock ≤ (next_stamp self.old).n }
     {
         let stamp = self.next_stamp();
         let sends = self.sends_of_tags(alloc, bucket, &key, id, &tags, stamp)?;

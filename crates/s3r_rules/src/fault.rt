@@ -5,8 +5,9 @@ ghost use Rattle.s3r_rules.specs.declared.fault.ConfigFault.TheVariants.{OutOfMe
 use std::alloc::{AllocError, AllocFailed};
 use thiserror::Error;
 
-/// What is wrong at a rule, in the order in which it is looked for (S3 API Reference, ReplicationRule). The last three are
-/// known where the buckets are.
+/// What is wrong at a rule, in the order in which it is looked for (S3 API Reference, ReplicationRule), and behind that what
+/// is wrong of a job (S3 API Reference, CreateJob). From `SameBucket` to `DestinationNotVersioned` a rule's kinds are known
+/// where the buckets are, and so are `Report` and `Target` of a bucket that isn't there.
 #[derive(Clone, Copy, Debug, PartialEq, Eq)]
 pub enum Kind {
     /// There is none.
@@ -36,6 +37,14 @@ pub enum Kind {
     NoDestination,
     /// Its destination's versioning is Suspended.
     DestinationNotVersioned,
+    /// A job's token hasn't 1 to 64 characters.
+    Token,
+    /// A job's priority isn't 0 to 2,147,483,647.
+    Priority,
+    /// A job's report can't go where it is to go.
+    Report,
+    /// A job's copies can't go where they are to go.
+    Target,
 }
 
 impl Kind {
@@ -61,6 +70,10 @@ impl Kind {
             Kind::SameBucket => "SameBucket",
             Kind::NoDestination => "NoDestination",
             Kind::DestinationNotVersioned => "DestinationNotVersioned",
+            Kind::Token => "Token",
+            Kind::Priority => "Priority",
+            Kind::Report => "Report",
+            Kind::Target => "Target",
         }
     }
 }

@@ -15,7 +15,10 @@ use Rattle.s3r_store.specs.Knows.{IsAtEnd, Knows}
 use Rattle.s3r_journal.specs.declared.writing.AppendFault.{AppendFault}
 use Rattle.s3r_journal.specs.declared.writing.AppendFault.TheVariants as append
 use Rattle.s3r_store.specs.declared.loaded_region.LoadedRegion.{LoadedRegion}
-use Rattle.s3r_store.specs.Faults.{fault_of_append}
+use Rattle.s3r_region.specs.declared.state.Deny.{Deny}
+use Rattle.s3r_region.specs.declared.state.Deny.TheVariants as deny
+use Rattle.s3r_region.specs.Denies.{Accepts}
+use Rattle.s3r_store.specs.Faults.{fault_of_append, fault_of_deny}
 use Rattle.s3r_store.specs.Commits.{IsEither, IsWith, Commits, HasWritten, length_with}
 
 -- bytes that stand for these spellings up to this end, or are empty
@@ -156,3 +159,11 @@ stands_for n v held h w knows = record {
   stands = stands_at v held.end (spelled h) (w.as_read.volume v) (at_end_of v held.end (spelled h) w knows.volume);
   lawful = knows.lawful;
 }
+
+-- what the state refuses, the history of those numbers refuses
+pub denied : (A : Type 0) (n v regions region : ℕ) (h : History) (c : Command) (d : Deny) → regions ≡ n → region ≡ v
+    → Accepts {A = A} (refusal regions region h c) (Err d) → (room : ℕ) (old new : Outside)
+    → HasWritten n v h c (Err (fault_of_deny d)) room old new
+denied A n v regions region h c (deny.Refused f) is there refused room old new = subst (λ (k : ℕ). refusal k v h c ≡ Some f) is
+    (subst (λ (k : ℕ). refusal regions k h c ≡ Some f) there refused)
+denied A n v regions region h c deny.OutOfMemory is there refused room old new = absurd refused

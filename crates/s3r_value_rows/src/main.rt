@@ -4,6 +4,7 @@
 mod cells;
 mod escape;
 mod fault;
+mod job;
 mod json;
 mod names;
 mod record;

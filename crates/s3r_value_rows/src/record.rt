@@ -4,6 +4,7 @@ ghost use Rattle.std.specs.Prelude.{◌≤◌, length};
 
 use crate::cells::Cells;
 use crate::fault::Fault;
+use crate::job::{creation_text, finish_text};
 use crate::texts::{id_text, set_text, truth};
 use s3r_names::{BucketName, Bytes, ClassName, Key, TagSet, VersionId};
 use s3r_record::{Command, Effect, decode, encode, fits_record};
@@ -208,6 +209,14 @@ fn command_text(alloc: Global, command: &Command) -> Result<String, AllocError> 
             outcome,
         } => format!(in alloc; "Settle {to}, {number}, {outcome:?}"),
         Command::Attempt { to, number } => format!(in alloc; "Attempt {to}, {number}"),
+        Command::CreateJob { spec, manifest } => creation_text(alloc, spec, *manifest),
+        Command::MoveJob { job, state } => format!(in alloc; "MoveJob {job}, {state:?}"),
+        Command::SetPriority { job, priority } => {
+            format!(in alloc; "SetPriority {job}, {priority}")
+        }
+        Command::Prepare { job } => format!(in alloc; "Prepare {job}"),
+        Command::Line { job, line } => format!(in alloc; "Line {job}, {line}"),
+        Command::Finish { job, body } => finish_text(alloc, *job, body),
     }
 }
 

@@ -82,3 +82,19 @@ records-preserved g c =
       goes = g.met.W.World.goes_then _ _ _ c.records.invariant.goes c.in_ok-scan_in.ensures.goes;
       shape = shape_then _ _ _ c.records.invariant.shape c.in_ok-scan_in.ensures.shape;
     }
+
+pub returns-in-End-clause-known : goal.returns-in-End-clause-known
+returns-in-End-clause-known g c = λ told.
+    let known = c.records.invariant.known in
+    let scans = c.in_ok-scan_in.ensures.told told in
+    let ready = rw c.in-End.is at scans.permits in
+    let reads = rw c.in-End.is at (scans.reads (spelled known.0) (known.4 told)) in (
+      known.0,
+      record {
+        after = known.1;
+        region = c.records.invariant.region;
+        regions = c.records.invariant.regions;
+        lawful = known.2;
+        volume = (ready, reads.1, reads.2);
+      },
+    )

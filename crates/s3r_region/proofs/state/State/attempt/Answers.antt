@@ -11,5 +11,6 @@ invariant_of-self c = (
 
 pub returns : goal.returns
 returns c =
-    tried c.self.inside.region c.self.inside.commands c.self.inside.clock c.self.inside.buckets.items c.self.inside.queues c.attempt.new.self c.args.self.now
+    tried c.self.inside.region c.self.inside.commands c.self.inside.clock c.self.inside.buckets.items c.self.inside.queues c.attempt.new.self
+    c.self.inside.jobs c.args.self.now
     c.args.to c.args.number c.self.view_is c.attempt.ensures.regions c.attempt.ensures.after

@@ -16,5 +16,6 @@ invariant_of-self-2 c =
 pub returns : goal.returns
 returns c =
     created c.self.inside.region c.self.inside.commands c.self.inside.clock c.self.inside.buckets.items c.push.new.self.items c.self.inside.queues
+    c.self.inside.jobs
     c.args.self.now c.args.name c.args.locked c.self.view_is
     (c.in_ok-push.ensures.items ∙ ap (λ (b : Bucket). c.self.inside.buckets.items ++ b ∷ []) c.new.ensures)

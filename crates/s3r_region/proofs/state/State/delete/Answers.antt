@@ -13,5 +13,6 @@ invariant_of-self c = (
 
 pub returns : goal.returns
 returns c =
-    deleted c.self.inside.region c.self.inside.commands c.self.inside.clock c.self.inside.buckets.items c.remove_bucket.new.buckets.items c.self.inside.queues
+    deleted c.self.inside.region c.self.inside.commands c.self.inside.clock c.self.inside.buckets.items c.remove_bucket.new.buckets.items
+    c.self.inside.queues c.self.inside.jobs
     c.args.self.now c.args.name.now c.self.view_is c.remove_bucket.ensures

@@ -16,6 +16,7 @@ returns-clause-after c = record {
   once = ap (λ (bs : List Bucket). is_once (names_of bs)) c.new.ensures.items;
   some = subst (λ n. 1 ≤ n) (sym c.in_ok-new.ensures.regions) c.requires.some;
   queues = c.in_ok-new.ensures.after c.args.region;
+  jobs = c.new-3.ensures c.args.region;
   there = there_at_first c.in_ok-new.field-0.regions;
   beyond = λ d le. refl;
 }

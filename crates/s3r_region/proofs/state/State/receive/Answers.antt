@@ -16,7 +16,7 @@ change_if_applied-requires c =
 
 pub invariant_of-self-2 : goal.invariant_of-self-2
 invariant_of-self-2 c =
-    let old = kept c.self.inside.region c.self.inside.commands c.self.inside.clock c.self.inside.buckets.items c.self.inside.queues in
+    let old = kept c.self.inside.region c.self.inside.commands c.self.inside.clock c.self.inside.buckets.items c.self.inside.queues c.self.inside.jobs in
     let applied = is_applied c.judge-outcome.result in
     let made = c.in_ok-change_if_applied.ensures.ok
     ∙ ap (λ name. changed_if applied name c.in_ok-name.change c.self.inside.buckets.items) c.in_ok-name.ensures.0
@@ -36,7 +36,8 @@ returns c =
     ∙ ap (λ name. changed_if applied name c.in_ok-name.change c.self.inside.buckets.items) c.in_ok-name.ensures.0
     ∙ ap (λ (change : Change). changed_if applied (target_of c.args.effect) change c.self.inside.buckets.items) c.in_ok-name.ensures.1 in
     received c.self.inside.region c.self.inside.commands c.self.inside.clock c.self.inside.buckets.items c.change_if_applied.new.buckets.items
-    c.self.inside.queues c.receive.new.self c.args.self.now c.args.from c.args.number c.args.effect c.judge-outcome.result c.max-self-inside.result
+    c.self.inside.queues c.receive.new.self c.self.inside.jobs c.args.self.now c.args.from c.args.number c.args.effect c.judge-outcome.result
+    c.max-self-inside.result
     c.self.view_is
     c.receive.ensures.regions c.receive.ensures.after made
     (c.max-self-inside.ensures ∙ ap (λ n. max n c.self.inside.clock) c.carried_n-n.ensures) c.judge-outcome.ensures.after

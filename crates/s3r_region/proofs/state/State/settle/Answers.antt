@@ -11,5 +11,6 @@ invariant_of-self c = (
 
 pub returns : goal.returns
 returns c =
-    settled c.self.inside.region c.self.inside.commands c.self.inside.clock c.self.inside.buckets.items c.self.inside.queues c.settle.new.self c.args.self.now
+    settled c.self.inside.region c.self.inside.commands c.self.inside.clock c.self.inside.buckets.items c.self.inside.queues c.settle.new.self
+    c.self.inside.jobs c.args.self.now
     c.args.to c.args.number c.args.outcome c.self.view_is c.settle.ensures.regions c.settle.ensures.after

@@ -10,7 +10,7 @@ use Rattle.s3r_store.specs.Knows.{IsAtEnd}
 use Rattle.s3r_store.specs.Stands.{spelled}
 use Rattle.s3r_store.proofs.Histories.{accepted_as}
 use Rattle.s3r_store.proofs.Frames.{frame_length, frame_is, is_frame}
-use Rattle.s3r_store.proofs.Committed.{commits, commits_nothing, commit_failed, end_after, length_is}
+use Rattle.s3r_store.proofs.Committed.{commits, commits_nothing, commit_failed, end_after, length_is, denied}
 use Rattle.s3r_store.proofs.loaded_region.LoadedRegion.write_down.Goals as goal
 
 pub encode-requires : goal.encode-requires
@@ -19,6 +19,12 @@ encode-requires g c = meets_limits c.args.command.now c.requires.fits
 pub write-requires-clause-frame : goal.write-requires-clause-frame
 write-requires-clause-frame g c = is_frame (spelling c.args.command.now) _ (c.deref.ensures.value ∙ c.in_ok-frame.ensures.framed)
     (spelling_short c.args.command.now c.requires.fits)
+
+pub returns-in_err-accepts-clause-told : goal.returns-in_err-accepts-clause-told
+returns-in_err-accepts-clause-told g c = λ told h n knows.
+    let p = err_from_is_err_and c.from_residual.result c.from_residual.ensures.1 in
+    rw (p.1, p.2) (denied (Unit {0}) n c.args.v _ _ h c.args.command.now c.in_err-accepts.field-0.0 knows.regions knows.region
+    (c.in_err-accepts.ensures h knows.after) _ _ _)
 
 pub returns-in_err-frame-clause-told : goal.returns-in_err-frame-clause-told
 returns-in_err-frame-clause-told g c = λ told h n knows.

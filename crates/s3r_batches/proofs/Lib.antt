@@ -1,0 +1,6 @@
+pub mod Each
+pub mod Manifests
+pub mod StateLemmas
+pub mod Sound
+pub mod Tokens
+pub mod Steps
