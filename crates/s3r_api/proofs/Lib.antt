@@ -1,4 +1,7 @@
 pub mod Locations
+pub mod Reading
+pub mod JobRules
+pub mod JobReading
 pub mod Requests
 pub mod TextExamples
 pub mod RequestExamples
@@ -9,4 +12,6 @@ pub mod Whole
 pub mod NoFloats
 pub mod CopyFloats
 pub mod CopyExamples
+pub mod JobFloats
+pub mod JobExamples
 pub mod ListingExamples

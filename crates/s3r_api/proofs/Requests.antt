@@ -1,5 +1,5 @@
 -- What is true of each request that is read, and of each reason why one isn't.
-use Rattle.std.proofs.Common.{◌≡◌, ◌≤◌, if◌then◌else◌, ℕ, List, [], ◌∷◌, length, Option, Some, None, Bool, true, false, refl, sym, subst, ◌∙◌, nat_lt, IfOk, IfErr, Result, Ok, Err, codes, option_and_then}
+use Rattle.std.proofs.Common.{◌≡◌, ◌≤◌, if◌then◌else◌, ℕ, List, [], ◌∷◌, length, Option, Some, None, Bool, true, false, refl, sym, subst, ◌∙◌, nat_lt, IfOk, IfErr, Result, Ok, Err, codes}
 use Rattle.serde_json.specs.Data.{Data}
 use Rattle.serde_json.specs.Read.{read}
 use Rattle.std.specs.Str.{is_utf8}
@@ -33,8 +33,6 @@ use Rattle.s3r_routes.specs.declared.rows.Route.TheVariants as route
 use Rattle.s3r_routes.specs.Target.{Target, bucket, object}
 use Rattle.s3r_routes.specs.Query as query
 use Rattle.s3r_routes.specs.Query.{Pair}
-use Rattle.s3r_routes.specs.Numbers.{number_named}
-use Rattle.s3r_routes.specs.declared.words.Word.{Word}
 use Rattle.s3r_routes.specs.declared.words.Word.TheVariants as word
 use Rattle.s3r_routes.specs.Rows.{route_of}
 use Rattle.s3r_routes.specs.Names.{bucket_named, key_named, key_written, version_named}
@@ -48,20 +46,14 @@ use Rattle.s3r_api.specs.declared.request.Written.{Written}
 use Rattle.s3r_api.specs.declared.problem.Problem.{Problem}
 use Rattle.s3r_api.specs.declared.problem.Problem.TheVariants as problem
 use Rattle.s3r_api.specs.Problems.{Gives, IsOfRequest}
-use Rattle.s3r_api.specs.Faults.{of_route, of_body, routed, from_body, from_config}
+use Rattle.s3r_api.specs.Faults.{◌>>=◌, of_route, of_body, routed, from_body, from_config}
+use Rattle.s3r_api.specs.Numbers.{number_asked}
+use Rattle.s3r_api.specs.Jobs.{job_at}
 use Rattle.s3r_api.specs.Location.{location_in, region_of_text, region_of_value, region_of}
 use Rattle.s3r_api.specs.Lines.{first_line, lock_word, locked_by, tags_in, tags_by, hold_word, hold_by, class_in, class_by}
-use Rattle.s3r_api.specs.Request.{◌>>=◌, asked_at, limit_asked, id_behind, place_behind, list_request, if_recorded, replication_request, bucket_asked, written_by, put_request, version_asked, is_put, object_asked, bucket_request, object_request, region_from, region_asked, copy_request, desk_asked, other_request, request_at}
-
--- a result whose value has P, or whose reason is one of a framed request
-abbrev pub ReadsAs : {X : Type 0} → (X → Type 0) → Result X Problem → Type 0
-ReadsAs P (Ok x) = P x
-ReadsAs P (Err p) = IsOfRequest p
-
-reads-bind : {A B : Type 0} (P : A → Type 0) (Q : B → Type 0) (r : Result A Problem) (f : A → Result B Problem) → ReadsAs P r
-    → ((x : A) → P x → ReadsAs Q (f x)) → ReadsAs Q (r >>= f)
-reads-bind P Q (Ok x) f h next = next x h
-reads-bind P Q (Err p) f h next = h
+use Rattle.s3r_api.proofs.Reading.{ReadsAs, reads-bind, Any, Fits, Below, reads-number_asked}
+use Rattle.s3r_api.proofs.JobReading.{reads-job, named-job, reads-priority, reads-job_status, reads-turn, reads-work}
+use Rattle.s3r_api.specs.Request.{asked_at, limit_asked, id_behind, place_behind, list_request, if_recorded, replication_request, bucket_asked, written_by, put_request, version_asked, is_put, object_asked, bucket_request, object_request, copy_request, desk_asked, other_request, request_at}
 
 of-route : (f : RouteFault) → IsOfRequest (of_route f)
 of-route fault.NoSuchRoute = tt
@@ -86,9 +78,6 @@ reads-routed P (Err f) h = of-route f
 reads-from_body : {X : Type 0} (P : X → Type 0) (r : Result X BodyFault) → IfOk r P → ReadsAs P (from_body r)
 reads-from_body P (Ok x) h = h
 reads-from_body P (Err f) h = of-body f
-
-abbrev Any : {X : Type 0} → X → Type 0
-Any x = Unit {0}
 
 any-route : {X : Type 0} (r : Result X RouteFault) → IfOk r Any
 any-route (Ok x) = tt
@@ -215,10 +204,6 @@ reads-class (Some name) = go (is_class_name name) refl
     go false is = tt
 
 -- ---- a bucket's requests
-
--- the request is one where the body is no longer than this
-abbrev pub Fits : RawRequest → Request → Type 0
-Fits raw asked = length raw.body ≤ 4194304 → IsRequest asked
 
 reads-create : (raw : RawRequest) (words : List Pair) (name : List ℕ) → Named name → ReadsAs (Fits raw) (bucket_asked raw words name route.CreateBucket)
 reads-create raw words name named =
@@ -353,25 +338,43 @@ reads-object raw bytes written =
 
 -- ---- the desk's own requests
 
-reads-region_from : (region : Option ℕ) → ReadsAs Any (region_from region)
-reads-region_from None = tt
-reads-region_from (Some region) = tt
-
-reads-region_asked : (w : Word) (words : List Pair) → ReadsAs Any (region_asked w words)
-reads-region_asked w words = reads-region_from (option_and_then (number_named 4294967295) (query.value w words))
-
 reads-copy : (raw : RawRequest) (words : List Pair) → ReadsAs (Fits raw) (copy_request words)
 reads-copy raw words =
-    reads-bind Any (Fits raw) (region_asked word.From words) _ (reads-region_asked word.From words)
-    (λ from any. reads-bind Any (Fits raw) (region_asked word.To words) _ (reads-region_asked word.To words) (λ to any short. tt))
+    reads-bind (Below 4294967295) (Fits raw) (number_asked 4294967295 word.From words) _ (reads-number_asked 4294967295 word.From words)
+    (λ from low. reads-bind (Below 4294967295) (Fits raw) (number_asked 4294967295 word.To words) _ (reads-number_asked 4294967295 word.To words)
+    (λ to low short. tt))
 
-reads-desk_asked : (raw : RawRequest) (words : List Pair) (r : Route) → ReadsAs (Fits raw) (desk_asked words r)
-reads-desk_asked raw words route.Copy = reads-copy raw words
-reads-desk_asked raw words other = tt
+reads-desk_asked : (raw : RawRequest) (place : Target) (words : List Pair) (r : Route) → ReadsAs (Fits raw) (desk_asked raw place words r)
+reads-desk_asked raw place words route.CreateJob = reads-job raw
+reads-desk_asked raw place words route.DescribeJob = tt
+reads-desk_asked raw place words route.SetJobPriority = reads-priority raw (job_at place) words (named-job place)
+reads-desk_asked raw place words route.SetJobStatus = reads-job_status raw (job_at place) words (named-job place)
+reads-desk_asked raw place words route.Copy = reads-copy raw words
+reads-desk_asked raw place words route.JobTurn = reads-turn raw words
+reads-desk_asked raw place words route.Work = reads-work raw words
+reads-desk_asked raw place words route.Check = tt
+reads-desk_asked raw place words route.CreateBucket = tt
+reads-desk_asked raw place words route.HeadBucket = tt
+reads-desk_asked raw place words route.DeleteBucket = tt
+reads-desk_asked raw place words route.PutVersioning = tt
+reads-desk_asked raw place words route.GetVersioning = tt
+reads-desk_asked raw place words route.PutReplication = tt
+reads-desk_asked raw place words route.GetReplication = tt
+reads-desk_asked raw place words route.DeleteReplication = tt
+reads-desk_asked raw place words route.ListVersions = tt
+reads-desk_asked raw place words route.PutObject = tt
+reads-desk_asked raw place words route.GetObject = tt
+reads-desk_asked raw place words route.DeleteObject = tt
+reads-desk_asked raw place words route.DeleteVersion = tt
+reads-desk_asked raw place words route.PutTags = tt
+reads-desk_asked raw place words route.GetTags = tt
+reads-desk_asked raw place words route.DeleteTags = tt
+reads-desk_asked raw place words route.PutHold = tt
+reads-desk_asked raw place words route.GetHold = tt
 
 reads-other : (raw : RawRequest) (place : Target) → ReadsAs (Fits raw) (other_request raw place)
 reads-other raw place = reads-bind Any (Fits raw) (asked_at raw place) _ (reads-asked raw place)
-    (λ asked any. reads-desk_asked raw asked.words asked.route)
+    (λ asked any. reads-desk_asked raw place asked.words asked.route)
 
 pub reads-at : (raw : RawRequest) (place : Target) → ReadsAs (Fits raw) (request_at raw place)
 reads-at raw (bucket bytes) = reads-bucket raw bytes

@@ -1,12 +1,15 @@
 pub mod Problems
 pub mod Faults
+pub mod Numbers
 pub mod Location
 pub mod Lines
+pub mod Jobs
 pub mod Request
 pub mod Asking
 pub mod Ids
 pub mod Replication
 pub mod Listings
 pub mod Copying
+pub mod JobAnswers
 pub mod Replies
 pub mod Texts

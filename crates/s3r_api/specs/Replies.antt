@@ -21,6 +21,7 @@ use Rattle.s3r_json.specs.Status.{status_data}
 use Rattle.s3r_api.specs.Ids.{id_text}
 use Rattle.s3r_api.specs.Listings.{listing_data}
 use Rattle.s3r_api.specs.Copying.{copy_data}
+use Rattle.s3r_api.specs.JobAnswers.{id_members, made_data, set_data, moved_data, step_data, work_data}
 use Rattle.s3r_api.specs.Replication.{status_word}
 use Rattle.s3r_api.specs.declared.problem.Problem.{Problem}
 use Rattle.s3r_api.specs.declared.problem.Problem.TheVariants as problem
@@ -116,9 +117,6 @@ kind_reply rule kind = json_reply 400 (code_text (codes "InvalidRequest") (rule_
 abbrev pub job_members : List ℕ → List ℕ → Members
 job_members from wanted = member (codes "From") (string from) (member (codes "Wanted") (string wanted) no_members)
 
-abbrev pub job_member : List ℕ → Members
-job_member id = member (codes "JobId") (string id) no_members
-
 abbrev pub refusal_reply : Refusal → Reply
 refusal_reply refusal.NoSuchBucket = coded 404 (codes "NoSuchBucket")
 refusal_reply refusal.BucketAlreadyExists = coded 409 (codes "BucketAlreadyExists")
@@ -141,7 +139,7 @@ refusal_reply refusal.NoSuchJob = coded 404 (codes "NoSuchJob")
 refusal_reply refusal.TooManyJobs = coded 400 (codes "TooManyJobs")
 refusal_reply (refusal.JobStatus from wanted) =
     json_reply 400 (code_text (codes "JobStatusException") (job_members (state_text from) (wanted_text wanted)))
-refusal_reply (refusal.Idempotency id) = json_reply 400 (code_text (codes "IdempotencyException") (job_member (id_text id)))
+refusal_reply (refusal.Idempotency id) = json_reply 400 (code_text (codes "IdempotencyException") (id_members (id_text id) no_members))
 
 abbrev pub marked_status : Bool → ℕ
 marked_status named = if named then 405 else 404
@@ -221,5 +219,10 @@ answer_reply (Ok (answer.Versioning enabled)) = status_reply (versioning_word en
 answer_reply (Ok (answer.Configuration config)) = json_reply 200 (compact_text (config_data config))
 answer_reply (Ok (answer.Listing listing statuses)) = json_reply 200 (compact_text (listing_data listing statuses))
 answer_reply (Ok (answer.Copied outcome)) = json_reply 200 (compact_text (copy_data outcome))
+answer_reply (Ok (answer.JobMade id)) = json_reply 200 (compact_text (made_data id))
+answer_reply (Ok (answer.JobSet id priority)) = json_reply 200 (compact_text (set_data id priority))
+answer_reply (Ok (answer.JobMoved id state)) = json_reply 200 (compact_text (moved_data id state))
+answer_reply (Ok (answer.JobStep outcome)) = json_reply 200 (compact_text (step_data outcome))
+answer_reply (Ok (answer.Worked summary)) = json_reply 200 (compact_text (work_data summary))
 answer_reply (Ok (answer.Refused why)) = refusal_reply why
 answer_reply (Err why) = fault_reply why

@@ -1,6 +1,5 @@
 -- Which request of the desk a framed request is.
 use Rattle.std.specs.Prelude.{ℕ, Bool, true, false, if◌then◌else◌, is_some, List, [], Option, Some, None, Result, Ok, Err, codes, ◌&&◌, not}
-use Rattle.std.specs.Option.{option_and_then}
 use Rattle.std.specs.Str.{bytes_eq}
 use Rattle.s3r_names.specs.declared.version.VersionId.{VersionId}
 use Rattle.s3r_rules.specs.declared.rule.Rule.{Rule}
@@ -12,8 +11,6 @@ use Rattle.s3r_json.specs.Tags.{tags_body}
 use Rattle.s3r_routes.specs.Target.{Target, bucket, object, path_of, place_of}
 use Rattle.s3r_routes.specs.Query as query
 use Rattle.s3r_routes.specs.Query.{Pair}
-use Rattle.s3r_routes.specs.Numbers.{number_named}
-use Rattle.s3r_routes.specs.declared.words.Word.{Word}
 use Rattle.s3r_routes.specs.declared.words.Word.TheVariants as word
 use Rattle.s3r_routes.specs.declared.rows.Route.{Route}
 use Rattle.s3r_routes.specs.declared.rows.Route.TheVariants as route
@@ -26,14 +23,11 @@ use Rattle.s3r_desk.specs.declared.request.Request.TheVariants as request
 use Rattle.s3r_api.specs.declared.request.Written.{Written}
 use Rattle.s3r_api.specs.declared.problem.Problem.{Problem}
 use Rattle.s3r_api.specs.declared.problem.Problem.TheVariants.{NoSuchRoute, UnknownQuery, InvalidQuery, ConfigurationTooLong}
-use Rattle.s3r_api.specs.Faults.{routed, from_body, from_config}
+use Rattle.s3r_api.specs.Faults.{◌>>=◌, routed, from_body, from_config}
+use Rattle.s3r_api.specs.Numbers.{number_asked}
+use Rattle.s3r_api.specs.Jobs.{job_request, job_at, priority_request, status_request, turn_request, work_request}
 use Rattle.s3r_api.specs.Location.{region_of}
 use Rattle.s3r_api.specs.Lines.{locked_by, tags_by, hold_by, class_by}
-
-infixl 10 ◌>>=◌
-abbrev pub ◌>>=◌ : {A B : Type 0} → Result A Problem → (A → Result B Problem) → Result B Problem
-(Ok x) >>= f = f x
-(Err problem) >>= f = Err problem
 
 -- the method is HEAD
 abbrev pub is_head : RawRequest → Bool
@@ -67,19 +61,11 @@ list_request words name = do
 
 -- ---- the words of a copy
 
-abbrev pub region_from : Option ℕ → Result ℕ Problem
-region_from None = Err InvalidQuery
-region_from (Some region) = Ok region
-
--- The number at a word, in decimal digits and of 32 bits at most. Whether there is such a region isn't asked here.
-abbrev pub region_asked : Word → List Pair → Result ℕ Problem
-region_asked w words = region_from (option_and_then (number_named 4294967295) (query.value w words))
-
--- the sender is looked at first
+-- The sender is looked at first. Whether there are such regions isn't asked here.
 abbrev pub copy_request : List Pair → Result Request Problem
 copy_request words = do
-  from ← region_asked word.From words
-  to ← region_asked word.To words
+  from ← number_asked 4294967295 word.From words
+  to ← number_asked 4294967295 word.To words
   Ok (request.Copy from to)
 
 -- ---- what is asked of a bucket
@@ -175,14 +161,38 @@ object_request raw bytes written = do
   asked ← asked_at raw (object bytes written)
   object_asked raw asked.words name key asked.route
 
--- what a row asks of the desk itself; the other rows are there and aren't built
-abbrev pub desk_asked : List Pair → Route → Result Request Problem
-desk_asked words route.Copy = copy_request words
-desk_asked words other = Err UnknownQuery
+-- What a row asks of the desk itself. Two of its rows aren't built, and rows of buckets and objects are at no such place.
+abbrev pub desk_asked : RawRequest → Target → List Pair → Route → Result Request Problem
+desk_asked raw place words route.CreateJob = job_request raw
+desk_asked raw place words route.DescribeJob = Err UnknownQuery
+desk_asked raw place words route.SetJobPriority = priority_request (job_at place) words
+desk_asked raw place words route.SetJobStatus = status_request (job_at place) words
+desk_asked raw place words route.Copy = copy_request words
+desk_asked raw place words route.JobTurn = turn_request words
+desk_asked raw place words route.Work = work_request words
+desk_asked raw place words route.Check = Err UnknownQuery
+desk_asked raw place words route.CreateBucket = Err UnknownQuery
+desk_asked raw place words route.HeadBucket = Err UnknownQuery
+desk_asked raw place words route.DeleteBucket = Err UnknownQuery
+desk_asked raw place words route.PutVersioning = Err UnknownQuery
+desk_asked raw place words route.GetVersioning = Err UnknownQuery
+desk_asked raw place words route.PutReplication = Err UnknownQuery
+desk_asked raw place words route.GetReplication = Err UnknownQuery
+desk_asked raw place words route.DeleteReplication = Err UnknownQuery
+desk_asked raw place words route.ListVersions = Err UnknownQuery
+desk_asked raw place words route.PutObject = Err UnknownQuery
+desk_asked raw place words route.GetObject = Err UnknownQuery
+desk_asked raw place words route.DeleteObject = Err UnknownQuery
+desk_asked raw place words route.DeleteVersion = Err UnknownQuery
+desk_asked raw place words route.PutTags = Err UnknownQuery
+desk_asked raw place words route.GetTags = Err UnknownQuery
+desk_asked raw place words route.DeleteTags = Err UnknownQuery
+desk_asked raw place words route.PutHold = Err UnknownQuery
+desk_asked raw place words route.GetHold = Err UnknownQuery
 
 -- what is asked neither of a bucket nor of an object
 abbrev pub other_request : RawRequest → Target → Result Request Problem
-other_request raw place = asked_at raw place >>= λ asked. desk_asked asked.words asked.route
+other_request raw place = asked_at raw place >>= λ asked. desk_asked raw place asked.words asked.route
 
 abbrev pub request_at : RawRequest → Target → Result Request Problem
 request_at raw (bucket name) = bucket_request raw name

@@ -1,7 +1,6 @@
 //! Answers as bytes.
 
-ghost use Rattle.std.specs.Prelude.{◌≡◌, [], ◌∷◌, ◌++◌, IfOk, string_bytes};
-ghost use Rattle.s3r_api.specs.Ids.{id_text};
+ghost use Rattle.std.specs.Prelude.{◌≡◌, [], ◌∷◌, ◌++◌, Ok, IfOk, string_bytes};
 ghost use Rattle.s3r_api.specs.Replication.{status_word};
 ghost use Rattle.s3r_api.specs.Replies.{whole, version_field, marker_field, hold_word, hold_field, class_field, replication_field, hold_fields, replication_fields, class_fields, marker_fields, object_fields, gone_fields, json_field, json_reply, marked_status, marked_code, marked_fields, marker_reply, object_reply};
 ghost use Rattle.s3r_api.specs.Texts.{reply_text, answer_text, problem_text, IdsAreSpelled, HeadBegins};
@@ -11,7 +10,8 @@ use crate::problem::Problem;
 use crate::replication::status_word;
 use crate::replies::{
     JsonReply, code_text, config_reply, copy_reply, fault_reply, hold_reply, listing_reply,
-    problem_reply, refusal_reply, tags_reply, versioning_reply,
+    made_reply, moved_reply, problem_reply, refusal_reply, set_reply, step_reply, tags_reply,
+    versioning_reply, work_reply,
 };
 use http::StatusCode;
 use s3r_desk::{Answer, DeskFault, ObjectMetadata};
@@ -273,6 +273,44 @@ fn marker_bytes(
     whole_bytes(alloc, status, &fields, body.as_bytes(), head, last)
 }
 
+/// What the desk answers.
+fn told_bytes(alloc: Global, answer: &Answer, head: bool, last: bool) -> Result<Vec<u8>, AllocError>
+    ensures { IfOk result (λ text. text.items ≡ answer_text (Ok answer.now) head last) }
+{
+    match answer {
+        Answer::Done => whole_bytes(alloc, StatusCode::OK, &[], &[], head, last),
+        Answer::Written(id) => written_bytes(alloc, *id, head, last),
+        Answer::Gone { id, marker } => gone_bytes(alloc, *id, *marker, head, last),
+        Answer::Object { object, body } => object_bytes(alloc, object, body, head, last),
+        Answer::MarkerThere { id, named } => marker_bytes(alloc, *id, *named, head, last),
+        Answer::TagSet(tags) => json_bytes(alloc, &tags_reply(alloc, tags)?, head, last),
+        Answer::Hold(hold) => json_bytes(alloc, &hold_reply(alloc, *hold)?, head, last),
+        Answer::Versioning(enabled) => {
+            json_bytes(alloc, &versioning_reply(alloc, *enabled)?, head, last)
+        }
+        Answer::Configuration(config) => json_bytes(
+            alloc,
+            &config_reply(alloc, config)?,
+            head,
+            last,
+        ),
+        Answer::Listing { listing, statuses } => {
+            json_bytes(alloc, &listing_reply(alloc, listing, statuses)?, head, last)
+        }
+        Answer::Copied(outcome) => json_bytes(alloc, &copy_reply(alloc, *outcome)?, head, last),
+        Answer::JobMade(id) => json_bytes(alloc, &made_reply(alloc, *id)?, head, last),
+        Answer::JobSet { id, priority } => {
+            json_bytes(alloc, &set_reply(alloc, *id, *priority)?, head, last)
+        }
+        Answer::JobMoved { id, state } => {
+            json_bytes(alloc, &moved_reply(alloc, *id, *state)?, head, last)
+        }
+        Answer::JobStep(outcome) => json_bytes(alloc, &step_reply(alloc, *outcome)?, head, last),
+        Answer::Worked(summary) => json_bytes(alloc, &work_reply(alloc, *summary)?, head, last),
+        Answer::Refused(refusal) => json_bytes(alloc, &refusal_reply(alloc, *refusal)?, head, last),
+    }
+}
+
 /// The answer to a request that the desk was asked.
 pub fn answer_bytes(
     alloc: Global,
@@ -283,28 +321,7 @@ pub fn answer_bytes(
     ensures { IfOk result (λ text. text.items ≡ answer_text answer.now head last) }
 {
     match answer {
-        Ok(Answer::Done) => whole_bytes(alloc, StatusCode::OK, &[], &[], head, last),
-        Ok(Answer::Written(id)) => written_bytes(alloc, *id, head, last),
-        Ok(Answer::Gone { id, marker }) => gone_bytes(alloc, *id, *marker, head, last),
-        Ok(Answer::Object { object, body }) => object_bytes(alloc, object, body, head, last),
-        Ok(Answer::MarkerThere { id, named }) => marker_bytes(alloc, *id, *named, head, last),
-        Ok(Answer::TagSet(tags)) => json_bytes(alloc, &tags_reply(alloc, tags)?, head, last),
-        Ok(Answer::Hold(hold)) => json_bytes(alloc, &hold_reply(alloc, *hold)?, head, last),
-        Ok(Answer::Versioning(enabled)) => {
-            json_bytes(alloc, &versioning_reply(alloc, *enabled)?, head, last)
-        }
-        Ok(Answer::Configuration(config)) => {
-            json_bytes(alloc, &config_reply(alloc, config)?, head, last)
-        }
-        Ok(Answer::Listing { listing, statuses }) => {
-            json_bytes(alloc, &listing_reply(alloc, listing, statuses)?, head, last)
-        }
-        Ok(Answer::Copied(outcome)) => {
-            json_bytes(alloc, &copy_reply(alloc, *outcome)?, head, last)
-        }
-        Ok(Answer::Refused(refusal)) => {
-            json_bytes(alloc, &refusal_reply(alloc, *refusal)?, head, last)
-        }
+        Ok(answer) => told_bytes(alloc, answer, head, last),
         Err(fault) => json_bytes(alloc, &fault_reply(alloc, *fault)?, head, last),
     }
 }

@@ -4,9 +4,12 @@
 mod answer;
 mod copies;
 mod ids;
+mod job_answers;
+mod jobs;
 mod lines;
 mod listings;
 mod location;
+mod numbers;
 mod page;
 mod pair;
 mod problem;

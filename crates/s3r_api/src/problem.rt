@@ -4,6 +4,7 @@ ghost use Rattle.std.specs.Prelude.{◌≡◌};
 ghost use Rattle.s3r_api.specs.Problems.{problem_of};
 
 use s3r_http::HttpFault;
+use s3r_jobs_json::JobFault;
 use s3r_json::BodyFault;
 use s3r_routes::RouteFault;
 use s3r_rules::{ConfigFault, Kind};
@@ -26,7 +27,7 @@ pub enum Problem {
     InvalidHold,
     /// The body isn't the JSON that the route asks for.
     MalformedJson,
-    /// A rule of a configuration is wrong so, counted from 1; 0 where it is at none.
+    /// A rule of a configuration is wrong so, counted from 1; 0 where it is at none, or a job is wrong so.
     InvalidRequest { rule: u32, kind: Kind },
     /// A configuration whose command is longer than a record may be.
     ConfigurationTooLong,
@@ -100,6 +101,26 @@ impl From<ConfigFault> for Problem {
             ConfigFault::MalformedJson => Problem::MalformedJson,
             ConfigFault::InvalidRequest(rule, kind) => Problem::InvalidRequest { rule, kind },
             ConfigFault::OutOfMemory => Problem::OutOfMemory,
+        }
+    }
+}
+
+impl From<JobFault> for Problem {
+    ghost use Rattle.s3r_api.specs.Faults.{of_job};
+
+    ghost from_gives = { λ fault problem. problem ≡ of_job fault };
+
+    fn from(fault: JobFault) -> Self {
+        match fault {
+            JobFault::MalformedJson => Problem::MalformedJson,
+            JobFault::InvalidTag => Problem::InvalidTag,
+            JobFault::InvalidRequest(kind) => Problem::InvalidRequest { rule: 0, kind },
+            JobFault::InvalidArn => Problem::InvalidRequest {
+                rule: 0,
+                kind: Kind::BadArn,
+            },
+            JobFault::InvalidVersionId => Problem::InvalidVersionId,
+            JobFault::OutOfMemory => Problem::OutOfMemory,
         }
     }
 }

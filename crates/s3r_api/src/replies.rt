@@ -7,16 +7,18 @@ ghost use Rattle.serde_json.specs.Written.{compact_text};
 ghost use Rattle.s3r_json.specs.Tags.{tags_data};
 ghost use Rattle.s3r_rules_json.specs.Printing.{config_data};
 ghost use Rattle.s3r_api.specs.Copying.{copy_data};
+ghost use Rattle.s3r_api.specs.JobAnswers.{id_members, made_data, set_data, moved_data, step_data, work_data};
 ghost use Rattle.s3r_api.specs.Listings.{listing_data};
 ghost use Rattle.s3r_history.specs.declared.refusal.Refusal.{Refusal};
-ghost use Rattle.s3r_api.specs.Replies.{json_reply, status_reply, hold_word, versioning_word, code_data, code_text, coded, pair_data, region_name, region_members, rule_members, kind_reply, job_members, job_member, refusal_reply, fault_reply, problem_reply};
+ghost use Rattle.s3r_api.specs.Replies.{json_reply, status_reply, hold_word, versioning_word, code_data, code_text, coded, pair_data, region_name, region_members, rule_members, kind_reply, job_members, refusal_reply, fault_reply, problem_reply};
 
 use crate::copies::copy_text;
 use crate::ids::id_text;
+use crate::job_answers::{made_text, moved_text, set_text, step_text, work_text};
 use crate::listings::listing_text;
 use crate::problem::Problem;
 use http::StatusCode;
-use s3r_desk::{CopyOutcome, DeskFault, Listing, Refusal, Statuses};
+use s3r_desk::{CopyOutcome, DeskFault, JobOutcome, Listing, Refusal, Statuses, WorkSummary};
 use s3r_jobs::{JobState, Wanted};
 use s3r_json::{status_text, tags_text};
 use s3r_names::{TagSet, VersionId};
@@ -166,7 +168,7 @@ fn job_status_reply(alloc: Global, from: JobState, wanted: Wanted) -> Result<Jso
 }
 
 fn token_value(alloc: Global, id: &str) -> Result<Value, AllocError>
-    ensures { IfOk result (λ value. view value ≡ code_data (codes "IdempotencyException") (job_member id.now)) }
+    ensures { IfOk result (λ value. view value ≡ code_data (codes "IdempotencyException") (id_members id.now no_members)) }
 {
     json!(in alloc; {"Code": "IdempotencyException", "JobId": id})
 }
@@ -293,6 +295,56 @@ pub fn copy_reply(alloc: Global, outcome: CopyOutcome) -> Result<JsonReply, Allo
     Ok(JsonReply {
         status: StatusCode::OK,
         body: copy_text(alloc, outcome)?,
+    })
+}
+
+/// A job was made.
+pub fn made_reply(alloc: Global, id: VersionId) -> Result<JsonReply, AllocError>
+    ensures { IfOk result (λ reply. json_reply reply.status (string_bytes reply.body) ≡ json_reply 200 (compact_text (made_data id))) }
+{
+    Ok(JsonReply {
+        status: StatusCode::OK,
+        body: made_text(alloc, id)?,
+    })
+}
+
+/// A job has this priority.
+pub fn set_reply(alloc: Global, id: VersionId, priority: u32) -> Result<JsonReply, AllocError>
+    ensures { IfOk result (λ reply. json_reply reply.status (string_bytes reply.body) ≡ json_reply 200 (compact_text (set_data id priority))) }
+{
+    Ok(JsonReply {
+        status: StatusCode::OK,
+        body: set_text(alloc, id, priority)?,
+    })
+}
+
+/// A job came to this state.
+pub fn moved_reply(alloc: Global, id: VersionId, state: JobState) -> Result<JsonReply, AllocError>
+    ensures { IfOk result (λ reply. json_reply reply.status (string_bytes reply.body) ≡ json_reply 200 (compact_text (moved_data id state))) }
+{
+    Ok(JsonReply {
+        status: StatusCode::OK,
+        body: moved_text(alloc, id, state)?,
+    })
+}
+
+/// What a turn of a region's jobs came to.
+pub fn step_reply(alloc: Global, outcome: JobOutcome) -> Result<JsonReply, AllocError>
+    ensures { IfOk result (λ reply. json_reply reply.status (string_bytes reply.body) ≡ json_reply 200 (compact_text (step_data outcome))) }
+{
+    Ok(JsonReply {
+        status: StatusCode::OK,
+        body: step_text(alloc, outcome)?,
+    })
+}
+
+/// What rounds of work came to.
+pub fn work_reply(alloc: Global, summary: WorkSummary) -> Result<JsonReply, AllocError>
+    ensures { IfOk result (λ reply. json_reply reply.status (string_bytes reply.body) ≡ json_reply 200 (compact_text (work_data summary))) }
+{
+    Ok(JsonReply {
+        status: StatusCode::OK,
+        body: work_text(alloc, summary)?,
     })
 }
 

@@ -7,6 +7,9 @@ ghost use Rattle.s3r_api.specs.Problems.{Gives, GivesBy, IsOfRequest};
 ghost use Rattle.s3r_api.specs.Asking.{asked_seen};
 ghost use Rattle.s3r_api.specs.Request.{is_head, create_request, versioning_request, if_recorded, replication_request, bucket_asked, written_by, put_request, tags_request, hold_request, version_asked, is_put, object_asked, asked_at, bucket_request, object_request, desk_asked, other_request, request_at, request_of};
 
+use crate::jobs::{
+    job_at, job_request, priority_request, status_request, turn_request, work_request,
+};
 use crate::lines::{class_by, hold_by, locked_by, tags_by};
 use crate::location::region_of;
 use crate::page::list_request;
@@ -298,13 +301,43 @@ fn object_request(
     object_asked(alloc, raw, &asked.words, bucket, key, asked.route)
 }
 
-/// What a row asks of the desk itself. The other rows are there and aren't built.
-fn desk_asked(words: &Query, route: Route) -> Result<Request, Problem>
-    ensures { result ≡ desk_asked words.now route }
+/// What a row asks of the desk itself. Two of its rows aren't built, and rows of buckets and objects are at no such place.
+fn desk_asked(
+    alloc: Global,
+    raw: &RawRequest,
+    place: &Target,
+    words: &Query,
+    route: Route,
+) -> Result<Request, Problem>
+    ensures { Gives result (desk_asked raw.now (seen place.now) words.now route) }
 {
     match route {
+        Route::CreateJob => job_request(alloc, raw),
+        Route::SetJobPriority => priority_request(job_at(place), words),
+        Route::SetJobStatus => status_request(job_at(place), words),
         Route::Copy => copy_request(words),
-        _ => Err(Problem::UnknownQuery),
+        Route::JobTurn => turn_request(words),
+        Route::Work => work_request(words),
+        Route::DescribeJob
+        | Route::Check
+        | Route::CreateBucket
+        | Route::HeadBucket
+        | Route::DeleteBucket
+        | Route::PutVersioning
+        | Route::GetVersioning
+        | Route::PutReplication
+        | Route::GetReplication
+        | Route::DeleteReplication
+        | Route::ListVersions
+        | Route::PutObject
+        | Route::GetObject
+        | Route::DeleteObject
+        | Route::DeleteVersion
+        | Route::PutTags
+        | Route::GetTags
+        | Route::DeleteTags
+        | Route::PutHold
+        | Route::GetHold => Err(Problem::UnknownQuery),
     }
 }
 
@@ -313,7 +346,7 @@ fn other_request(alloc: Global, raw: &RawRequest, place: &Target) -> Result<Requ
     ensures { Gives result (other_request raw.now (seen place.now)) }
 {
     let asked = asked_at(alloc, raw, place)?;
-    desk_asked(&asked.words, asked.route)
+    desk_asked(alloc, raw, place, &asked.words, asked.route)
 }
 
 fn request_at(alloc: Global, raw: &RawRequest, place: &Target) -> Result<Request, Problem>

@@ -1,5 +1,5 @@
 -- What a turn of the copier does is careful.
-use Rattle.std.proofs.Common.{◌≡◌, ℕ, ◌<◌, ◌≤◌, ◌==◌, ◌&&◌, Bool, true, false, cond, [], ◌∷◌, ◌++◌, Option, Some, None, IsSome, Result, Ok, Err, refl, sym, ◌∙◌, ap, subst, inl, inr, ⊎_elim, ne_eqb, arith}
+use Rattle.std.proofs.Common.{◌≡◌, ℕ, ◌<◌, ◌≤◌, ◌==◌, ◌&&◌, Bool, true, false, cond, [], ◌∷◌, ◌++◌, Some, None, IsSome, Result, Ok, Err, refl, sym, ◌∙◌, ap, subst, inl, inr, ⊎_elim, ne_eqb, arith}
 use Rattle.std.specs.Prelude.{nat_lt}
 use Rattle.std.proofs.lemmas.Bool.{and_parts}
 use Rattle.std.proofs.lemmas.Bool.Decides.{nat_tests}
@@ -18,17 +18,15 @@ use Rattle.s3r_desk.specs.declared.copy_outcome.CopyOutcome.{CopyOutcome}
 use Rattle.s3r_desk.specs.declared.copy_outcome.CopyOutcome.TheVariants as outcomes
 use Rattle.s3r_desk.specs.declared.fault.DeskFault.{DeskFault}
 use Rattle.s3r_desk.specs.declared.fault.DeskFault.TheVariants as faults
-use Rattle.s3r_desk.specs.declared.request.Request.{Request}
 use Rattle.s3r_desk.specs.declared.request.Answer.{Answer}
 use Rattle.s3r_desk.specs.Events.{found, began, Events, known, history_at}
 use Rattle.s3r_desk.specs.Careful.{MayBegin, AreCareful}
 use Rattle.s3r_desk.specs.Stopping.{IsStarved}
 use Rattle.s3r_desk.specs.Copying.{due_of, arrival_at, outcome_by, delivery, settle, clean, attempt, IsDue, IsMissed, IsTry, IsNoted, Fails, Ends, TurnsOut, IsTouched, IsCopyTurn}
-use Rattle.s3r_desk.specs.Responds.{pair_of, IsCopied, TurnsBy, IsTurn}
-use Rattle.s3r_desk.specs.Laws.{TurnsAreCareful}
+use Rattle.s3r_desk.specs.Responds.{IsCopied}
 use Rattle.s3r_desk.proofs.Careful.{same_number, other_number, careful_then}
 use Rattle.s3r_desk.proofs.Knowing.{known_found}
-use Rattle.s3r_desk.proofs.Licensed.{known_there, AreLicensed, made_careful, stopped_careful, step_careful}
+use Rattle.s3r_desk.proofs.Licensed.{known_there, AreLicensed, made_careful, stopped_careful}
 use Rattle.s3r_desk.proofs.CopyDue.{IsFirst, is_first, may_arrive, receive_accepted, settle_accepted, attempt_accepted, next_same, new_above, again_came, never_behind, not_past}
 
 known_elsewhere : (r q : ℕ) (h : History) (c : Command) (events : Events) → (r ≡ q → ⊥) → known (found r h ∷ began r c ∷ events) q ≡ known events q
@@ -205,7 +203,7 @@ module _ (room : ℕ → ℕ) (n s d : ℕ) (ls : s < n) (ld : d < n) (now : Eve
   turns_out_careful events (Ok outcome) comes = ends_careful events outcome comes
   turns_out_careful events (Err fault) comes = fails_careful events fault comes
 
-touch_careful : (P : ℕ → History → Type 0) (n : ℕ) (before : Events) (r : ℕ) (events : Events) → IsTouched P before r events → AreCareful n before events
+pub touch_careful : (P : ℕ → History → Type 0) (n : ℕ) (before : Events) (r : ℕ) (events : Events) → IsTouched P before r events → AreCareful n before events
 touch_careful P n before r events touched = ⊎_elim
     (λ none. subst (λ (l : Events). AreCareful n before l) (sym none) tt)
     (λ w. subst (λ (l : Events). AreCareful n before l) (sym w.3) tt)
@@ -224,21 +222,9 @@ copy_careful P room n s d before events result ls ld turn =
 lt_of : (a b : ℕ) → nat_lt a b ≡ true → a < b
 lt_of a b e = grind (arith, nat_tests)
 
-copied_careful : (P : ℕ → History → Type 0) (room : ℕ → ℕ) (n s d : ℕ) (before events : Events) (result : Result Answer DeskFault) (b : Bool)
+pub copied_careful : (P : ℕ → History → Type 0) (room : ℕ → ℕ) (n s d : ℕ) (before events : Events) (result : Result Answer DeskFault) (b : Bool)
     → (nat_lt s n && nat_lt d n) ≡ b → IsCopied P room s d before result events b → AreCareful n before events
 copied_careful P room n s d before events result true is did =
     let both = and_parts (nat_lt s n) (nat_lt d n) is in
     copy_careful P room n s d before events did.0 (lt_of s n both.0) (lt_of d n both.1) did.2
 copied_careful P room n s d before events result false is did = subst (λ (l : Events). AreCareful n before l) (sym did.1) tt
-
-turns_by_careful : (P : ℕ → History → Type 0) (n : ℕ) (room : ℕ → ℕ) (before : Events) (request : Request) (result : Result Answer DeskFault)
-    (events : Events) (pair : Option (ℕ × ℕ)) → TurnsBy pair P n room before request result events → AreCareful n before events
-turns_by_careful P n room before request result events None turn = step_careful P n room before request result events turn
-turns_by_careful P n room before request result events (Some pair) turn = copied_careful P room n pair.0 pair.1 before events result _ refl turn
-
-pub turn_careful : (P : ℕ → History → Type 0) (n : ℕ) (room : ℕ → ℕ) (before : Events) (request : Request) (result : Result Answer DeskFault)
-    (events : Events) → IsTurn P n room before request result events → AreCareful n before events
-turn_careful P n room before request result events turn = turns_by_careful P n room before request result events (pair_of request) turn
-
-pub turns_careful : TurnsAreCareful
-turns_careful n room seen before request result events turn = turn_careful _ n room before request result events turn

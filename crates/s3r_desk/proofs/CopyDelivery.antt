@@ -26,7 +26,8 @@ use Rattle.s3r_desk.specs.Keeping.{Keeps, AreNumbered}
 use Rattle.s3r_desk.specs.Comparing.{pair_fault}
 use Rattle.s3r_desk.specs.Copying.{arrival_at, outcome_by, delivery, tried, is_missed, IsNoDamage, fails_at, Fails}
 use Rattle.s3r_desk.specs.Steps.{made, FitRooms}
-use Rattle.s3r_desk.specs.Responds.{IsDamage, FailsAt, HasCause}
+use Rattle.s3r_desk.specs.Damage.{IsDamage}
+use Rattle.s3r_desk.specs.Responds.{FailsAt, HasCause}
 use Rattle.s3r_desk.specs.Happened.{Happened, IsCommit, IsTried, IsSettled, IsDelivered, IsReadAt}
 use Rattle.s3r_desk.proofs.Disagreeing.{IsDisagreement}
 use Rattle.s3r_desk.proofs.CopyStores.{store_after}

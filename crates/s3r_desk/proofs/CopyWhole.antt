@@ -36,7 +36,7 @@ some_not_none : (o : Option History) → IsSome o → o ≡ None → ⊥
 some_not_none None some none = absurd cc
 some_not_none (Some h) some none = absurd cc
 
-still_none : (before events : Events) (r : ℕ) → events ≡ [] → known before r ≡ None → known (events ++ before) r ≡ None
+pub still_none : (before events : Events) (r : ℕ) → events ≡ [] → known before r ≡ None → known (events ++ before) r ≡ None
 still_none before events r none unread = subst (λ (l : Events). known (l ++ before) r ≡ None) (sym none) unread
 
 -- the sender couldn't be read

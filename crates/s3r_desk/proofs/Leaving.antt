@@ -19,8 +19,11 @@ use Rattle.s3r_history.specs.BucketView.{BucketView}
 use Rattle.s3r_history.specs.RegionView.{RegionView, view}
 use Rattle.s3r_history.specs.Accepts.{Cause, first_of_causes, in_bucket, in_version, of_deletion, of_switch, of_put, of_marker, of_removal, of_tags, of_a_marker, under_hold, beyond, unless_beyond, of_configuration, of_dropping, causes, refusal}
 use Rattle.s3r_history.specs.Accepts.{in_job, of_token, of_manifest, of_job, of_move, of_priority}
+use Rattle.s3r_jobs.specs.declared.spec.JobSpec.{JobSpec}
 use Rattle.s3r_jobs.specs.Facts.{JobFacts}
 use Rattle.s3r_jobs.specs.Jobs.{find_job, token_job, reports_to}
+use Rattle.s3r_jobs.specs.Same.{same_spec}
+use Rattle.s3r_rules.specs.declared.fault.Kind.TheVariants as kind
 use Rattle.s3r_desk.specs.declared.request.Request.{Request}
 use Rattle.s3r_desk.specs.declared.request.Request.TheVariants as request
 use Rattle.s3r_desk.specs.declared.request.Answer.{Answer}
@@ -28,8 +31,8 @@ use Rattle.s3r_desk.specs.declared.request.Answer.TheVariants as answer
 use Rattle.s3r_desk.specs.declared.planning.Plan.{Plan}
 use Rattle.s3r_desk.specs.declared.planning.Plan.TheVariants.{Shows, Fetches, Commits}
 use Rattle.s3r_desk.specs.declared.planning.Reply.{Reply}
-use Rattle.s3r_desk.specs.declared.planning.Reply.TheVariants.{Is, Written, Marked}
-use Rattle.s3r_desk.specs.Steps.{Histories, Views, VersionStatuses, BucketLocation, status_or_none, metadata_of, version_shown, refuses, at_location, missing, hidden, sought, object_of, with_object, if_locked, creation, shown, removal, deletion, tags_reply, location, or_wrong, wrong_rule, first_wrong, not_taken, region_of, regions_of, unless_refused, replication, configuration, dropping, plan, commits_at, commits_unless, reply_at, made_of, views, statuses, step}
+use Rattle.s3r_desk.specs.declared.planning.Reply.TheVariants.{Is, Written, Marked, Created}
+use Rattle.s3r_desk.specs.Steps.{Histories, Views, VersionStatuses, RegionJobs, BucketLocation, status_or_none, metadata_of, version_shown, refuses, at_location, missing, hidden, sought, object_of, with_object, if_locked, creation, shown, removal, deletion, tags_reply, location, or_wrong, wrong_rule, first_wrong, not_taken, region_of, regions_of, unless_refused, replication, configuration, dropping, job_id, lacks_report, lacks_target, over_manifest, new_job, job_again, unless_made, at_job, plan, commits_at, commits_unless, reply_at, made_of, views, statuses, jobs, step}
 use Rattle.s3r_desk.specs.Laws.{is_told, may_leave}
 use Rattle.s3r_desk.proofs.PlacedRules.{below}
 
@@ -124,6 +127,7 @@ abbrev settles : Reply → Bool
 settles (Is reply) = may_leave reply
 settles Written = true
 settles Marked = true
+settles Created = true
 
 abbrev pub Leaves : ℕ → Plan → Type 0
 Leaves n (Shows reply) = may_leave reply ≡ true
@@ -134,6 +138,7 @@ reply-leaves : (r index : ℕ) (reply : Reply) → settles reply ≡ true → ma
 reply-leaves r index (Is reply) settled = settled
 reply-leaves r index Written settled = refl
 reply-leaves r index Marked settled = refl
+reply-leaves r index Created settled = refl
 
 made-leaves : (n : ℕ) (at : Histories) (p : Plan) → Leaves n p → may_leave (made_of n at p).reply ≡ true
 made-leaves n at (Shows reply) leaves = leaves
@@ -259,33 +264,78 @@ dropping-leaves : (n : ℕ) (b : Name) (h : BucketLocation) (o : Option Replicat
 dropping-leaves n b h None = refl
 dropping-leaves n b h (Some r) = (tt, refl)
 
-pub plan-leaves : (n : ℕ) (v : Views) (s : VersionStatuses) (q : Request) → Leaves n (plan n v s q)
-plan-leaves n v s (request.CreateBucket name region locked) = creation-leaves n name locked (location n v name) region
-plan-leaves n v s (request.HeadBucket name) = at-location n _ (λ h. refl) (location n v name)
-plan-leaves n v s (request.DeleteBucket name) = at-location n _ (λ h. (tt, refl)) (location n v name)
-plan-leaves n v s (request.PutVersioning name enabled) = at-location n _ (λ h. (tt, refl)) (location n v name)
-plan-leaves n v s (request.GetVersioning name) = at-location n _ (λ h. refl) (location n v name)
-plan-leaves n v s (request.PutReplication name config) = replication-leaves n v name config
-plan-leaves n v s (request.GetReplication name) = at-location n _ (λ h. configuration-leaves n h.told.config) (location n v name)
-plan-leaves n v s (request.DeleteReplication name) = at-location n _ (λ h. dropping-leaves n name h h.told.config) (location n v name)
-plan-leaves n v s (request.ListVersions name prefix after limit) = at-location n _ (λ h. page-leaves n (is_place_there after h.told.rows) _ refl)
+-- ---- jobs
+
+over-manifest : (n : ℕ) (spec : JobSpec) (h : BucketLocation) → Leaves n (over_manifest spec h)
+over-manifest n spec h =
+    with-object n (λ row. commits_at h (command.CreateJob spec row.id) Created) (λ row. (tt, refl)) spec.manifest.version
+    (sought spec.manifest.key spec.manifest.version h.told)
+
+new-job : (n : ℕ) (at : Name → Option BucketView) (spec : JobSpec) (h : BucketLocation) → Leaves n (new_job at spec h)
+new-job n at spec h = go (lacks_report at spec.report) (lacks_target at spec.operation)
+  where
+    go : (report target : Bool) → Leaves n (cond report (refuses (refusals.InvalidRequest 0 kind.Report))
+        (cond target (refuses (refusals.InvalidRequest 0 kind.Target)) (over_manifest spec h)))
+    go true target = refl
+    go false true = refl
+    go false false = over-manifest n spec h
+
+job-again : (n r : ℕ) (spec : JobSpec) (job : JobFacts) → Leaves n (job_again r spec job)
+job-again n r spec job = go (same_spec job.spec spec)
+  where
+    go : (t : Bool) → Leaves n (cond t (Shows (answer.JobMade (job_id r job.id))) (refuses (refusals.Idempotency (job_id r job.id))))
+    go true = refl
+    go false = refl
+
+unless-made : (n : ℕ) (p : Plan) (r : ℕ) (spec : JobSpec) (o : Option JobFacts) → Leaves n p → Leaves n (unless_made p r spec o)
+unless-made n p r spec None leaves = leaves
+unless-made n p r spec (Some job) leaves = job-again n r spec job
+
+at-job : (n : ℕ) (p : VersionId → Plan) → ((id : VersionId) → Leaves n (p id)) → (o : Option VersionId) → Leaves n (at_job n p o)
+at-job n p leaves None = refl
+at-job n p leaves (Some id) = go (nat_lt id.region n)
+  where
+    go : (t : Bool) → Leaves n (cond t (p id) (refuses refusals.NoSuchJob))
+    go true = leaves id
+    go false = refl
+
+-- ---- all of them
+
+pub plan-leaves : (n : ℕ) (v : Views) (s : VersionStatuses) (j : RegionJobs) (q : Request) → Leaves n (plan n v s j q)
+plan-leaves n v s j (request.CreateBucket name region locked) = creation-leaves n name locked (location n v name) region
+plan-leaves n v s j (request.HeadBucket name) = at-location n _ (λ h. refl) (location n v name)
+plan-leaves n v s j (request.DeleteBucket name) = at-location n _ (λ h. (tt, refl)) (location n v name)
+plan-leaves n v s j (request.PutVersioning name enabled) = at-location n _ (λ h. (tt, refl)) (location n v name)
+plan-leaves n v s j (request.GetVersioning name) = at-location n _ (λ h. refl) (location n v name)
+plan-leaves n v s j (request.PutReplication name config) = replication-leaves n v name config
+plan-leaves n v s j (request.GetReplication name) = at-location n _ (λ h. configuration-leaves n h.told.config) (location n v name)
+plan-leaves n v s j (request.DeleteReplication name) = at-location n _ (λ h. dropping-leaves n name h h.told.config) (location n v name)
+plan-leaves n v s j (request.ListVersions name prefix after limit) = at-location n _ (λ h. page-leaves n (is_place_there after h.told.rows) _ refl)
     (location n v name)
-plan-leaves n v s (request.PutObject b key body tags hold class) = at-location n _ (λ h. (tt, refl)) (location n v b)
-plan-leaves n v s (request.GetObject b key version head) =
+plan-leaves n v s j (request.PutObject b key body tags hold class) = at-location n _ (λ h. (tt, refl)) (location n v b)
+plan-leaves n v s j (request.GetObject b key version head) =
     at-location n _ (λ h. shown-leaves n (s h.region b key) version head h (sought key version h.told)) (location n v b)
-plan-leaves n v s (request.DeleteObject b key version) = at-location n _ (λ h. deletion-leaves n b key version h) (location n v b)
-plan-leaves n v s (request.PutTags b key version tags gone) =
+plan-leaves n v s j (request.DeleteObject b key version) = at-location n _ (λ h. deletion-leaves n b key version h) (location n v b)
+plan-leaves n v s j (request.PutTags b key version tags gone) =
     at-location n _ (λ h. with-object n (λ row. commits_at h (command.SetTags b key row.id tags) (tags_reply gone row.id))
     (λ row. (tt, tags-settle gone row.id)) version (sought key version h.told)) (location n v b)
-plan-leaves n v s (request.GetTags b key version) = at-location n _ (λ h. with-object n (λ row. Shows (answer.TagSet row.tags)) (λ row. refl) version
+plan-leaves n v s j (request.GetTags b key version) = at-location n _ (λ h. with-object n (λ row. Shows (answer.TagSet row.tags)) (λ row. refl) version
     (sought key version h.told)) (location n v b)
-plan-leaves n v s (request.PutHold b key version hold) =
+plan-leaves n v s j (request.PutHold b key version hold) =
     at-location n _ (λ h. if-locked n h _ (with-object n (λ row. commits_at h (command.SetHold b key row.id hold) (Is (answer.Written row.id)))
     (λ row. (tt, refl)) version (sought key version h.told))) (location n v b)
-plan-leaves n v s (request.GetHold b key version) =
+plan-leaves n v s j (request.GetHold b key version) =
     at-location n _ (λ h. if-locked n h _ (with-object n (λ row. Shows (answer.Hold row.hold)) (λ row. refl) version (sought key version h.told)))
     (location n v b)
-plan-leaves n v s (request.Copy from to) = refl
+plan-leaves n v s j (request.Copy from to) = refl
+plan-leaves n v s j (request.CreateJob spec) =
+    at-location n _ (λ h. unless-made n (new_job (v h.region) spec h) h.region spec (token_job spec.token (j h.region)) (new-job n (v h.region) spec h))
+    (location n v spec.manifest.bucket)
+plan-leaves n v s j (request.SetJobPriority id priority) = at-job n _ (λ named. (tt, refl)) id
+plan-leaves n v s j (request.SetJobStatus id ready) = at-job n _ (λ named. (tt, refl)) id
+plan-leaves n v s j (request.JobTurn region) = refl
+plan-leaves n v s j (request.Work rounds) = refl
 
 pub all_leave : (n : ℕ) (at : Histories) (q : Request) → may_leave (step n at q).reply ≡ true
-all_leave n at q = made-leaves n at (plan n (views at) (statuses at) q) (plan-leaves n (views at) (statuses at) q)
+all_leave n at q =
+    made-leaves n at (plan n (views at) (statuses at) (jobs at) q) (plan-leaves n (views at) (statuses at) (jobs at) q)

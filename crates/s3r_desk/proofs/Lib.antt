@@ -7,6 +7,7 @@ pub mod Touched
 pub mod Causes
 pub mod CommitsMade
 pub mod Locations
+mod NewJobs
 pub mod Disagreeing
 mod AnswersMade
 pub mod Coming
@@ -19,6 +20,8 @@ pub mod Agreeing
 pub mod Licensed
 mod CopyDue
 pub mod CopyCareful
+pub mod RoundLemmas
+pub mod TurnsCareful
 mod CopyStores
 mod CopyCarrying
 mod CopyCounts
@@ -31,3 +34,8 @@ pub mod OneCommit
 mod CopyAccepted
 mod CopyDelivery
 mod BetweenTwo
+mod StoreJobs
+mod JobTurning
+mod OfJobs
+mod Works
+mod MadeTurns

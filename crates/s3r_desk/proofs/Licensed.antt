@@ -13,7 +13,7 @@ use Rattle.s3r_desk.specs.declared.request.Answer.{Answer}
 use Rattle.s3r_desk.specs.declared.planning.Plan.{Plan}
 use Rattle.s3r_desk.specs.declared.planning.Plan.TheVariants.{Shows, Fetches, Commits}
 use Rattle.s3r_desk.specs.Events.{found, began, answered, Events, known, history_at}
-use Rattle.s3r_desk.specs.Steps.{Commit, Histories, after_commit, made, commits_unless, reply_at, plan, views, statuses, made_of}
+use Rattle.s3r_desk.specs.Steps.{Commit, Histories, after_commit, made, commits_unless, reply_at, plan, views, statuses, jobs, made_of}
 use Rattle.s3r_desk.specs.Comparing.{disagreement}
 use Rattle.s3r_desk.specs.Careful.{IsLicensed, MayBegin, AreCareful}
 use Rattle.s3r_desk.specs.Stopping.{StopsAt, IsInDoubt}
@@ -128,9 +128,9 @@ comes_careful n room now commits reply rest (Err faults.OutOfMemory) all comes =
 steps_careful : (n : ℕ) (room : ℕ → ℕ) (now : Events) (request : Request) (rest : Events) (result : Result Answer DeskFault)
     → AreKnown (IsBelow n) now → (o : Option DeskFault) → StepsUnless o n room (history_at now) request rest result → AreCareful n now rest
 steps_careful n room now request rest result all None comes =
-    let planned : Plan = plan n (views (history_at now)) (statuses (history_at now)) request in
+    let planned : Plan = plan n (views (history_at now)) (statuses (history_at now)) (jobs (history_at now)) request in
     comes_careful n room now _ _ rest result
-    (step_licensed n now all planned (plan-leaves n (views (history_at now)) (statuses (history_at now)) request)) comes
+    (step_licensed n now all planned (plan-leaves n (views (history_at now)) (statuses (history_at now)) (jobs (history_at now)) request)) comes
 steps_careful n room now request rest result all (Some fault) did = subst (λ (l : Events). AreCareful n now l) (sym did.1) tt
 
 pub step_careful : (P : ℕ → History → Type 0) (n : ℕ) (room : ℕ → ℕ) (before : Events) (request : Request) (result : Result Answer DeskFault)

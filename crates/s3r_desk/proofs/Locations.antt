@@ -1,8 +1,13 @@
 -- What read stores tell, by the histories of their regions.
-use Rattle.std.proofs.Common.{◌≡◌, ℕ, zero, suc, ◌+◌, ◌-◌, ◌<◌, cond, bytes_eq, List, [], ◌∷◌, length, Option, Some, None, IsSome, IfSome, true, false, unwrap_or, refl, sym, ◌∙◌, ap, subst, arith}
+use Rattle.std.proofs.Common.{◌≡◌, ℕ, zero, suc, ◌+◌, ◌-◌, ◌<◌, cond, bytes_eq, List, [], ◌∷◌, length, Option, Some, None, IsSome, IfSome, is_none, Bool, true, false, unwrap_or, refl, sym, ◌∙◌, ap, ap₂, subst, arith}
 use Rattle.std.specs.Prelude.{slice_get}
 use Rattle.std.specs.Option.{option_map, option_and_then}
 use Rattle.s3r_world.specs.Outside.{Outside}
+use Rattle.s3r_jobs.specs.declared.spec.JobSpec.{JobSpec}
+use Rattle.s3r_jobs.specs.declared.spec.ReportSpec.{ReportSpec}
+use Rattle.s3r_jobs.specs.declared.spec.Operation.{Operation}
+use Rattle.s3r_jobs.specs.declared.spec.Operation.TheVariants as operations
+use Rattle.s3r_jobs.specs.Jobs.{JobsFacts, token_job}
 use Rattle.s3r_rules.specs.declared.rule.Rule.{Rule}
 use Rattle.s3r_rules.specs.declared.fault.Kind.TheVariants as kind
 use Rattle.s3r_record.specs.declared.command.Command.TheVariants as command
@@ -16,6 +21,9 @@ use Rattle.s3r_versions.specs.declared.listing.ListPosition.{ListPosition}
 use Rattle.s3r_versions.specs.Listing.{is_place_there, listing}
 use Rattle.s3r_history.specs.RegionView.{view}
 use Rattle.s3r_history.specs.Told.{told}
+use Rattle.s3r_history.specs.Deeds.{deeds}
+use Rattle.s3r_history.specs.Jobs.{jobs_at}
+use Rattle.s3r_history.specs.Accepts.{takes_none}
 use Rattle.s3r_region.specs.Contents.{Contents}
 use Rattle.s3r_region.specs.After.{seen, seen_bucket, told_by}
 use Rattle.s3r_store.specs.declared.loaded_region.LoadedRegion.{LoadedRegion}
@@ -33,9 +41,9 @@ use Rattle.s3r_desk.specs.Keeping.{IsHeld, Keeps, AreRead}
 use Rattle.s3r_region.specs.View.{seen_status}
 use Rattle.s3r_region.proofs.Views.{status-is}
 use Rattle.s3r_versions.specs.declared.listing.Listed.{Listed}
-use Rattle.s3r_desk.specs.Lookups.{bucket_in, told_in, views_of, status_in, statuses_of}
+use Rattle.s3r_desk.specs.Lookups.{bucket_in, told_in, views_of, status_in, statuses_of, jobs_in, no_jobs, jobs_of}
 use Rattle.s3r_desk.specs.Steps as asked
-use Rattle.s3r_desk.specs.Steps.{BucketLocation, Views, VersionStatuses, refuses, sought, status_or_none, listed, page, object_shown, shown, object_asked, statuses, or_location, location_from, location, at_location, or_wrong, kind_there, wrong_rule, first_wrong, not_taken, region_of, regions_of, unless_refused, replication, plan, views, made_of, step}
+use Rattle.s3r_desk.specs.Steps.{BucketLocation, Views, VersionStatuses, RegionJobs, refuses, sought, status_or_none, listed, page, object_shown, shown, object_asked, statuses, or_location, location_from, location, at_location, or_wrong, kind_there, wrong_rule, first_wrong, not_taken, region_of, regions_of, unless_refused, replication, lacks_report, lacks_target, over_manifest, new_job, unless_made, job_creation, plan, views, jobs, made_of, step}
 use Rattle.s3r_desk.specs.Responds.{IsBelow, AreKnown}
 
 -- ---- one store
@@ -86,6 +94,21 @@ module _ (events : Events) (stores : List Store) (w : Outside) (keeps : Keeps ev
       go : (o : Option Store) → slice_get stores r ≡ o → option_and_then (status_in b key id) o ≡ (view r (history_at events r)).status b key id
       go None e = absurd (none_within stores r lt e)
       go (Some s) e = status_is b key id r s e
+
+  jobs_is : (r : ℕ) (s : Store) → slice_get stores r ≡ Some s → jobs_in s ≡ Some (jobs_at (deeds r (history_at events r)))
+  jobs_is r s get =
+      let at = known_at r s get in
+      ap (λ (o : Option LoadedRegion). option_map (λ (state : Contents). state.jobs.jobs) (option_map (λ (held : LoadedRegion). held.state) o)) at.1
+      ∙ ap Some at.2.after.jobs.0
+      ∙ ap (λ (m : ℕ). Some (jobs_at (deeds m (history_at events r)))) at.2.region
+
+  -- and of jobs
+  pub jobs_are : (r : ℕ) → r < length stores → jobs_of stores r ≡ jobs (history_at events) r
+  jobs_are r lt = go (slice_get stores r) refl
+    where
+      go : (o : Option Store) → slice_get stores r ≡ o → unwrap_or (option_and_then jobs_in o) no_jobs ≡ jobs_at (deeds r (history_at events r))
+      go None e = absurd (none_within stores r lt e)
+      go (Some s) e = ap (λ (o : Option JobsFacts). unwrap_or o no_jobs) (jobs_is r s e)
 
 -- ---- one plan
 
@@ -160,38 +183,70 @@ replication_same at by b rules same h =
     ∙ ap (λ o. unless_refused (Commits h.region (command.SetReplication b rules (regions_of by rules)) (Is answer.Done))
     (cond h.told.enabled o (Some refusals.InvalidBucketState))) (wrong_same at by b same 1 rules)
 
--- a request's plan asks only where its bucket is, and what is told of it there
-pub plan_same : (n : ℕ) (v u : Views) (s t : VersionStatuses) (q : Request) → ((b : Name) (r : ℕ) → r < n → v r b ≡ u r b)
-    → ((b key : Name) (id : VersionId) (r : ℕ) → r < n → s r b key id ≡ t r b key id) → plan n v s q ≡ plan n u t q
-plan_same n v u s t (request.CreateBucket name region locked) same alike = rw (home_same n v u name (same name)) refl
-plan_same n v u s t (request.HeadBucket name) same alike = rw (home_same n v u name (same name)) refl
-plan_same n v u s t (request.DeleteBucket name) same alike = rw (home_same n v u name (same name)) refl
-plan_same n v u s t (request.PutVersioning name enabled) same alike = rw (home_same n v u name (same name)) refl
-plan_same n v u s t (request.GetVersioning name) same alike = rw (home_same n v u name (same name)) refl
-plan_same n v u s t (request.PutReplication name config) same alike =
+-- a new job's plan asks only what its region tells of buckets and jobs
+module _ (v u : Name → Option BucketView) (same : (b : Name) → v b ≡ u b) where
+  report_same : (o : Option ReportSpec) → lacks_report v o ≡ lacks_report u o
+  report_same None = refl
+  report_same (Some report) = ap takes_none (same report.bucket)
+
+  target_same : (operation : Operation) → lacks_target v operation ≡ lacks_target u operation
+  target_same (operations.Copy target prefix) = ap is_none (same target)
+  target_same (operations.Tagging tags) = refl
+  target_same (operations.Hold hold) = refl
+  target_same operations.Replicate = refl
+
+  new_job_same : (spec : JobSpec) (h : BucketLocation) → new_job v spec h ≡ new_job u spec h
+  new_job_same spec h = ap₂ (λ (report target : Bool). cond report (refuses (refusals.InvalidRequest 0 kind.Report))
+      (cond target (refuses (refusals.InvalidRequest 0 kind.Target)) (over_manifest spec h))) (report_same spec.report) (target_same spec.operation)
+
+pub job_same : (v u : Views) (i j : RegionJobs) (spec : JobSpec) (h : BucketLocation) → ((b : Name) → v h.region b ≡ u h.region b)
+    → i h.region ≡ j h.region → job_creation v i spec h ≡ job_creation u j spec h
+job_same v u i j spec h same known =
+    ap (λ (js : JobsFacts). unless_made (new_job (v h.region) spec h) h.region spec (token_job spec.token js)) known
+    ∙ ap (λ (p : Plan). unless_made p h.region spec (token_job spec.token (j h.region))) (new_job_same (v h.region) (u h.region) same spec h)
+
+-- a request's plan asks only where its bucket is, and what is told of it and of jobs there
+pub plan_same : (n : ℕ) (v u : Views) (s t : VersionStatuses) (i j : RegionJobs) (q : Request) → ((b : Name) (r : ℕ) → r < n → v r b ≡ u r b)
+    → ((b key : Name) (id : VersionId) (r : ℕ) → r < n → s r b key id ≡ t r b key id) → ((r : ℕ) → r < n → i r ≡ j r) → plan n v s i q ≡ plan n u t j q
+plan_same n v u s t i j (request.CreateBucket name region locked) same alike known = rw (home_same n v u name (same name)) refl
+plan_same n v u s t i j (request.HeadBucket name) same alike known = rw (home_same n v u name (same name)) refl
+plan_same n v u s t i j (request.DeleteBucket name) same alike known = rw (home_same n v u name (same name)) refl
+plan_same n v u s t i j (request.PutVersioning name enabled) same alike known = rw (home_same n v u name (same name)) refl
+plan_same n v u s t i j (request.GetVersioning name) same alike known = rw (home_same n v u name (same name)) refl
+plan_same n v u s t i j (request.PutReplication name config) same alike known =
     let locations : (b : Name) → location n v b ≡ location n u b = λ b. home_same n v u b (same b) in
     ap (at_location (replication (location n v) name config)) (locations name)
     ∙ at_home_same (replication (location n v) name config) (replication (location n u) name config)
     (replication_same (location n v) (location n u) name config locations) (location n u name)
-plan_same n v u s t (request.GetReplication name) same alike = rw (home_same n v u name (same name)) refl
-plan_same n v u s t (request.DeleteReplication name) same alike = rw (home_same n v u name (same name)) refl
-plan_same n v u s t (request.ListVersions name prefix after limit) same alike =
+plan_same n v u s t i j (request.GetReplication name) same alike known = rw (home_same n v u name (same name)) refl
+plan_same n v u s t i j (request.DeleteReplication name) same alike known = rw (home_same n v u name (same name)) refl
+plan_same n v u s t i j (request.ListVersions name prefix after limit) same alike known =
     ap (at_location (λ h. page (s h.region name) prefix after limit h.told)) (home_same n v u name (same name))
     ∙ at_home_within n (λ h. page (s h.region name) prefix after limit h.told) (λ h. page (t h.region name) prefix after limit h.told)
     (λ h lt. page-same (s h.region name) (t h.region name) (λ key id. alike name key id h.region lt) prefix after limit h.told)
     (location n u name) (home_from_within 0 n n u name (omega arith))
-plan_same n v u s t (request.PutObject b key body tags hold class) same alike = rw (home_same n v u b (same b)) refl
-plan_same n v u s t (request.GetObject b key version head) same alike =
+plan_same n v u s t i j (request.PutObject b key body tags hold class) same alike known = rw (home_same n v u b (same b)) refl
+plan_same n v u s t i j (request.GetObject b key version head) same alike known =
     ap (at_location (object_asked s b key version head)) (home_same n v u b (same b))
     ∙ at_home_within n (object_asked s b key version head) (object_asked t b key version head)
     (λ h lt. shown-same (s h.region b key) (t h.region b key) (λ id. alike b key id h.region lt) version head h (sought key version h.told))
     (location n u b) (home_from_within 0 n n u b (omega arith))
-plan_same n v u s t (request.DeleteObject b key version) same alike = rw (home_same n v u b (same b)) refl
-plan_same n v u s t (request.PutTags b key version tags gone) same alike = rw (home_same n v u b (same b)) refl
-plan_same n v u s t (request.GetTags b key version) same alike = rw (home_same n v u b (same b)) refl
-plan_same n v u s t (request.PutHold b key version hold) same alike = rw (home_same n v u b (same b)) refl
-plan_same n v u s t (request.GetHold b key version) same alike = rw (home_same n v u b (same b)) refl
-plan_same n v u s t (request.Copy from to) same alike = refl
+plan_same n v u s t i j (request.DeleteObject b key version) same alike known = rw (home_same n v u b (same b)) refl
+plan_same n v u s t i j (request.PutTags b key version tags gone) same alike known = rw (home_same n v u b (same b)) refl
+plan_same n v u s t i j (request.GetTags b key version) same alike known = rw (home_same n v u b (same b)) refl
+plan_same n v u s t i j (request.PutHold b key version hold) same alike known = rw (home_same n v u b (same b)) refl
+plan_same n v u s t i j (request.GetHold b key version) same alike known = rw (home_same n v u b (same b)) refl
+plan_same n v u s t i j (request.Copy from to) same alike known = refl
+plan_same n v u s t i j (request.CreateJob spec) same alike known =
+    let b = spec.manifest.bucket in
+    ap (at_location (job_creation v i spec)) (home_same n v u b (same b))
+    ∙ at_home_within n (job_creation v i spec) (job_creation u j spec)
+    (λ h lt. job_same v u i j spec h (λ name. same name h.region lt) (known h.region lt))
+    (location n u b) (home_from_within 0 n n u b (omega arith))
+plan_same n v u s t i j (request.SetJobPriority id priority) same alike known = refl
+plan_same n v u s t i j (request.SetJobStatus id ready) same alike known = refl
+plan_same n v u s t i j (request.JobTurn region) same alike known = refl
+plan_same n v u s t i j (request.Work rounds) same alike known = refl
 
 -- ---- each region is known
 
@@ -217,11 +272,34 @@ known_here events stores w keeps read r lt = history_of (known events r) (all_kn
 
 -- the step that a plan over the stores makes
 pub step_is : (events : Events) (stores : List Store) (w : Outside) → Keeps events stores w → AreRead stores → (q : Request)
-    → step (length stores) (history_at events) q ≡ made_of (length stores) (history_at events) (plan (length stores) (views_of stores) (statuses_of stores) q)
+    → step (length stores) (history_at events) q
+    ≡ made_of (length stores) (history_at events) (plan (length stores) (views_of stores) (statuses_of stores) (jobs_of stores) q)
 step_is events stores w keeps read q =
     ap (made_of (length stores) (history_at events)) (sym (plan_same (length stores) (views_of stores) (views (history_at events)) (statuses_of stores)
-    (statuses (history_at events)) q (λ b r lt. views_are events stores w keeps read b r lt)
-    (λ b key id r lt. statuses_are events stores w keeps read b key id r lt)))
+    (statuses (history_at events)) (jobs_of stores) (jobs (history_at events)) q (λ b r lt. views_are events stores w keeps read b r lt)
+    (λ b key id r lt. statuses_are events stores w keeps read b key id r lt) (λ r lt. jobs_are events stores w keeps read r lt)))
+
+-- what is told of a bucket is told by its region
+module _ (v : Views) (b : Name) where
+  told_there : (r n : ℕ) → IfSome (location_from r n v b) (λ h. v h.region b ≡ Some h.told)
+  told_there r zero = tt
+  told_there r (suc n) = go (v r b) refl (told_there (r + 1) n)
+    where
+      go : (o : Option BucketView) → v r b ≡ o → IfSome (location_from (r + 1) n v b) (λ h. v h.region b ≡ Some h.told)
+          → IfSome (or_location r o (location_from (r + 1) n v b)) (λ h. v h.region b ≡ Some h.told)
+      go None e later = later
+      go (Some t) e later = e
+
+-- so its region was read
+pub read_there : (stores : List Store) (b : Name) (h : BucketLocation) (s : Store) → location (length stores) (views_of stores) b ≡ Some h
+    → slice_get stores h.region ≡ Some s → IsSome (state_of s)
+read_there stores b h s at get =
+    go (state_of s) (sym (ap (option_and_then (told_in b)) get) ∙ subst (λ (o : Option BucketLocation). IfSome o (λ (x : BucketLocation).
+    views_of stores x.region b ≡ Some x.told)) at (told_there (views_of stores) b 0 (length stores)))
+  where
+    go : (o : Option Contents) → option_and_then (λ (state : Contents). seen state b) o ≡ Some h.told → IsSome o
+    go None e = absurd cc
+    go (Some state) e = refl
 
 -- a region that doesn't have the bucket is passed over
 pub home_on : (n r : ℕ) (v : Views) (b : Name) (h : Option BucketLocation) → r < n → v r b ≡ None → location_from r (n - r) v b ≡ h

@@ -1,20 +1,28 @@
--- A request's turn: all regions are touched, and then its step is made; or the copier makes its turn.
-use Rattle.std.proofs.Common.{◌≡◌, ℕ, List, [], ◌++◌, length, Option, Some, None, Result, Ok, Err, refl, sym, subst, inl, inr, append_assoc}
+-- A request's turn: all regions are touched, and then its step is made; or it is one of the copier, or of a region's jobs.
+use Rattle.std.proofs.Common.{◌≡◌, ℕ, ◌+◌, List, [], ◌++◌, length, Option, Some, None, Result, Ok, Err, refl, sym, ◌∙◌, ap, subst, inl, inr, ⊎_elim, append_assoc}
 use Rattle.s3r_world.specs.Image.{Image}
-use Rattle.s3r_world.specs.Outside.{Outside, Counts, NoneFalls}
-use Rattle.s3r_history.specs.Words.{History}
+use Rattle.s3r_world.specs.declared.world.Side.TheVariants as side
+use Rattle.s3r_world.specs.Outside.{Outside, Counts, NoneFalls, Rises}
 use Rattle.s3r_store.specs.declared.store.Store.{Store}
 use Rattle.s3r_desk.specs.declared.fault.DeskFault.{DeskFault}
 use Rattle.s3r_desk.specs.declared.fault.DeskFault.TheVariants as faults
 use Rattle.s3r_desk.specs.declared.request.Request.{Request}
 use Rattle.s3r_desk.specs.declared.request.Answer.{Answer}
+use Rattle.s3r_desk.specs.declared.turning.Turn.{Turn}
+use Rattle.s3r_desk.specs.declared.turning.Turn.TheVariants.{Step, Copy, Jobs, Work}
 use Rattle.s3r_desk.specs.Events.{Events, history_at}
 use Rattle.s3r_desk.specs.Steps.{Commit, Histories, step}
 use Rattle.s3r_desk.specs.Keeping.{Keeps, AreRead}
 use Rattle.s3r_desk.specs.Comparing.{disagreement}
 use Rattle.s3r_desk.specs.Progress.{Happens}
-use Rattle.s3r_desk.specs.Responds.{IsBelow, AreKnown, Comes, StepsUnless, FailsToTouch, IsStepTurn, pair_of, TurnsBy, IsTurn, AsRead, IsDamage, Touches, Answers, Responds, HasCause}
-use Rattle.s3r_desk.specs.Happened.{Happened, CopiesBetween}
+use Rattle.s3r_desk.specs.Damage.{IsDamage}
+use Rattle.s3r_desk.specs.Responds.{IsBelow, AreKnown, Comes, StepsUnless, FailsToTouch, IsStepTurn, turn_of, as_worked, TurnsBy, IsTurn, AsRead, Touches, Answers, Responds, HasCause}
+use Rattle.s3r_desk.specs.declared.work_summary.WorkSummary.{WorkSummary}
+use Rattle.s3r_desk.specs.Copying.{attempts_about, fails_at}
+use Rattle.s3r_desk.specs.Works.{Reads}
+use Rattle.s3r_desk.specs.Happened.{Happened, CopiesBetween, StepsJobs}
+use Rattle.s3r_desk.specs.Worked.{Worked}
+use Rattle.s3r_desk.proofs.CopyCounts.{fails_same}
 use Rattle.s3r_desk.proofs.StepCounts.{step_counted}
 use Rattle.s3r_desk.proofs.Stepping.{happens_then}
 use Rattle.s3r_desk.proofs.Locations.{all_known}
@@ -61,23 +69,23 @@ damage_as n A B w (faults.Damaged v offset) d = d
 damage_as n A B w (faults.Disagree from to sent last settled received) d = tt
 damage_as n A B w faults.OutOfMemory d = tt
 
--- a step over all regions is the turn of a request that asks for no turn of the copier
-as_turn : (P : ℕ → History → Type 0) (n : ℕ) (room : ℕ → ℕ) (before : Events) (request : Request) (result : Result Answer DeskFault) (events : Events)
-    → pair_of request ≡ None → IsStepTurn P n room before request result events → IsTurn P n room before request result events
-as_turn P n room before request result events none turn =
-    subst (λ (o : Option (ℕ × ℕ)). TurnsBy o P n room before request result events) (sym none) turn
+-- a step over all regions is the turn of a request that asks for one
+as_turn : (n : ℕ) (room : ℕ → ℕ) (seen : Image) (before : Events) (request : Request) (result : Result Answer DeskFault) (events : Events)
+    → turn_of request ≡ Step → IsStepTurn (Reads n seen) n room before request result events → IsDamage n seen result
+    → IsTurn n room seen before request result events
+as_turn n room seen before request result events is turn damage =
+    subst (λ (t : Turn). TurnsBy t n room seen before request result events) (sym is) (turn, damage)
 
 module _ (before : Events) (request : Request) (room : ℕ → ℕ) (a b : List Store) (old mid : Outside) (f g : Counts) (m : ℕ) (falls : NoneFalls f g)
-    (step : pair_of request ≡ None) where
+    (step : turn_of request ≡ Step) where
   responds_by : (result : Result Answer DeskFault) (e : List Store) (new : Outside) (events : Events)
       → IsStepTurn (AsRead (length a) old) (length a) room before request result events → Keeps (events ++ before) e new → Happens (length a) events old new
       → IsDamage (length a) old.as_read result → HasCause m result f g → Responds before request result room a e old new f g
   responds_by result e new events turn keeps happens damage cause = record {
     events = events;
-    turn = as_turn (AsRead (length a) old) (length a) room before request result events step turn;
+    turn = as_turn (length a) room old.as_read before request result events step turn damage;
     keeps = keeps;
     happens = happens;
-    damage = damage;
     counted = step_counted (AsRead (length a) old) (length a) m room before request result events f g turn falls cause;
   }
 
@@ -118,17 +126,45 @@ module _ (before : Events) (request : Request) (room : ℕ → ℕ) (a b : List 
         known : AreKnown (IsBelow (length a)) (touches.touched ++ before)
         known = subst (λ (n : ℕ). AreKnown (IsBelow n) (touches.touched ++ before)) same (all_known (touches.touched ++ before) b mid touches.keeps read)
 
--- ---- the copier's turn
+-- ---- a turn of the copier, or of a region's jobs, or rounds of them
 
-pub responds_copied : (before : Events) (request : Request) (room : ℕ → ℕ) (s d : ℕ) (result : Result Answer DeskFault) (a b : List Store) (old new : Outside)
-    (f g : Counts) → pair_of request ≡ Some (s, d)
-    → Happened (CopiesBetween (AsRead (length a) old) (length a) room s d before result f g) before a b old new → IsDamage (length a) old.as_read result
-    → Responds before request result room a b old new f g
-responds_copied before request room s d result a b old new f g pair did damage = record {
-  events = did.events;
-  turn = subst (λ (o : Option (ℕ × ℕ)). TurnsBy o (AsRead (length a) old) (length a) room before request result did.events) (sym pair) did.such.turn;
-  keeps = did.keeps;
-  happens = did.happens;
-  damage = damage;
-  counted = did.such.counted;
-}
+module _ (before : Events) (request : Request) (room : ℕ → ℕ) (result : Result Answer DeskFault) (a b : List Store) (old new : Outside) (f g : Counts) where
+  pub responds_copied : (s d : ℕ) → turn_of request ≡ Copy s d
+      → Happened (CopiesBetween (AsRead (length a) old) (length a) room s d before result f g) before a b old new → IsDamage (length a) old.as_read result
+      → Responds before request result room a b old new f g
+  responds_copied s d is did damage = record {
+    events = did.events;
+    turn = subst (λ (t : Turn). TurnsBy t (length a) room old.as_read before request result did.events) (sym is) (did.such.turn, damage);
+    keeps = did.keeps;
+    happens = did.happens;
+    counted = did.such.counted;
+  }
+
+  pub responds_jobs : (r : ℕ) → turn_of request ≡ Jobs r
+      → Happened (StepsJobs (AsRead (length a) old) (length a) room r before result f g) before a b old new → IsDamage (length a) old.as_read result
+      → Responds before request result room a b old new f g
+  responds_jobs r is did damage = record {
+    events = did.events;
+    turn = subst (λ (t : Turn). TurnsBy t (length a) room old.as_read before request result did.events) (sym is) (did.such.turn, damage);
+    keeps = did.keeps;
+    happens = did.happens;
+    counted = did.such.counted;
+  }
+
+  pub responds_worked : (k : ℕ) → turn_of request ≡ Work k → (outcome : Result WorkSummary DeskFault) → result ≡ as_worked outcome
+      → Happened (Worked (length a) room old.as_read k before outcome f g) before a b old new → Responds before request result room a b old new f g
+  responds_worked k is outcome same did = record {
+    events = did.events;
+    turn = subst (λ (t : Turn). TurnsBy t (length a) room old.as_read before request result did.events) (sym is) (⊎_elim
+        (λ w. inl (w.0, w.1, same ∙ ap as_worked w.2))
+        (λ w. inr (same ∙ ap as_worked w.0, w.1))
+        did.such.works);
+    keeps = did.keeps;
+    happens = did.happens;
+    counted = λ v. subst (λ (r : Result Answer DeskFault). Rises (attempts_about v did.events + fails_at v r) (side.Volume v) f g) (sym same)
+        (subst (λ (m : ℕ). Rises (attempts_about v did.events + m) (side.Volume v) f g) (fails_as_worked v outcome) (did.such.counted v));
+  }
+    where
+      fails_as_worked : (v : ℕ) (outcome : Result WorkSummary DeskFault) → fails_at v outcome ≡ fails_at v (as_worked outcome)
+      fails_as_worked v (Ok summary) = refl
+      fails_as_worked v (Err fault) = fails_same WorkSummary Answer v fault

@@ -14,7 +14,7 @@ use Rattle.s3r_desk.specs.declared.planning.Plan.TheVariants.{Shows, Fetches, Co
 use Rattle.s3r_desk.specs.declared.request.Request.{Request}
 use Rattle.s3r_desk.specs.declared.request.Answer.{Answer}
 use Rattle.s3r_desk.specs.Events.{found, began, answered, Events, history_at}
-use Rattle.s3r_desk.specs.Steps.{Commit, Histories, after_commit, made, commits_unless, reply_at, plan, views, statuses, made_of}
+use Rattle.s3r_desk.specs.Steps.{Commit, Histories, after_commit, made, commits_unless, reply_at, plan, views, statuses, jobs, made_of}
 use Rattle.s3r_desk.specs.Comparing.{disagreement}
 use Rattle.s3r_desk.specs.Stopping.{StopsAt, IsInDoubt}
 use Rattle.s3r_desk.specs.Copying.{attempt_about, attempts_about, fails_at, AreCounted}
@@ -103,8 +103,8 @@ plan_none n v at (Commits r c reply) leaves = go (refusal n r (at r) c)
 steps_none : (n v : ℕ) (room : ℕ → ℕ) (at : Histories) (request : Request) (rest : Events) (result : Result Answer DeskFault) (o : Option DeskFault)
     → StepsUnless o n room at request rest result → attempts_about v rest ≡ 0
 steps_none n v room at request rest result None comes =
-    let planned : Plan = plan n (views at) (statuses at) request in
-    comes_none v room at _ _ rest result (plan_none n v at planned (plan-leaves n (views at) (statuses at) request)) comes
+    let planned : Plan = plan n (views at) (statuses at) (jobs at) request in
+    comes_none v room at _ _ rest result (plan_none n v at planned (plan-leaves n (views at) (statuses at) (jobs at) request)) comes
 steps_none n v room at request rest result (Some fault) did = ap (attempts_about v) did.1
 
 turn_none : (P : ℕ → History → Type 0) (n v : ℕ) (room : ℕ → ℕ) (before : Events) (request : Request) (result : Result Answer DeskFault)

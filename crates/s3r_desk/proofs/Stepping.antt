@@ -15,10 +15,10 @@ use Rattle.s3r_desk.proofs.Advancing.{advances_none, advances_then, advances_fou
 pub looks_none : (w : Outside) → Looks w w
 looks_none w = record { as_read = refl; images = λ c now. now; time = elapses_none w w.images; input = record { input = refl; connections = refl } }
 
-progress_none : (n : ℕ) (c : Image) → Progress n [] c c
+pub progress_none : (n : ℕ) (c : Image) → Progress n [] c c
 progress_none n c = record { volume = λ r lt. advances_none n r (c.volume r); output = refl }
 
-progress_then : (n : ℕ) (first second : Events) (a b d : Image) → Progress n first a b → Progress n second b d → Progress n (second ++ first) a d
+pub progress_then : (n : ℕ) (first second : Events) (a b d : Image) → Progress n first a b → Progress n second b d → Progress n (second ++ first) a d
 progress_then n first second a b d p q = record {
   volume = λ r lt. advances_then n first second r (a.volume r) (b.volume r) (d.volume r) (p.volume r lt) (q.volume r lt);
   output = q.output ∙ p.output;

@@ -18,7 +18,11 @@ use Rattle.s3r_desk.specs.Events.{found, began, Events, known, history_at}
 use Rattle.s3r_desk.specs.Keeping.{Keeps}
 use Rattle.s3r_desk.specs.Progress.{Happens}
 use Rattle.s3r_desk.specs.declared.request.Answer.{Answer}
-use Rattle.s3r_desk.specs.Responds.{IsCopied}
+use Rattle.s3r_desk.specs.Responds.{IsCopied, IsStepped}
+use Rattle.s3r_desk.specs.declared.job_outcome.JobOutcome.{JobOutcome}
+use Rattle.s3r_jobs.specs.declared.turn.NextStep.{NextStep}
+use Rattle.s3r_batches.specs.Turns.{step_after}
+use Rattle.s3r_desk.specs.JobTurns.{IsStepMade, StepOrIdle, IsJobTurn}
 use Rattle.s3r_desk.specs.declared.copy_outcome.CopyOutcome.{CopyOutcome}
 use Rattle.s3r_desk.specs.declared.copy_outcome.CopyOutcome.TheVariants as outcomes
 use Rattle.s3r_desk.specs.Steps.{made, FitRooms}
@@ -90,6 +94,26 @@ pub record Copies (P : ℕ → History → Type 0) (room : ℕ → ℕ) (s d : �
 pub record CopiesBetween (P : ℕ → History → Type 0) (n : ℕ) (room : ℕ → ℕ) (s d : ℕ) (before : Events) (result : Result Answer DeskFault)
     (counts later : Counts) (events : Events) : Type 0 where
   pub turn : IsCopied P room s d before result events (nat_lt s n && nat_lt d n)
+  pub counted : AreCounted result events counts later
+
+-- the step of a job was made at r, one of n
+abbrev pub MakesStep : ℕ → (ℕ → ℕ) → ℕ → NextStep → Events → Result JobOutcome DeskFault → Events → Type 0
+MakesStep n room r step before result events = IsStepMade n room r (history_at before r) step events result
+
+-- the next step of r's jobs was, where one of them has one
+abbrev pub StepsOrIdles : ℕ → (ℕ → ℕ) → ℕ → Events → Result JobOutcome DeskFault → Events → Type 0
+StepsOrIdles n room r before result events = let h = history_at before r in StepOrIdle (step_after r h) n room r h events result
+
+-- a turn of a region's jobs
+pub record JobsStep (P : ℕ → History → Type 0) (n : ℕ) (room : ℕ → ℕ) (r : ℕ) (before : Events) (result : Result JobOutcome DeskFault)
+    (counts later : Counts) (events : Events) : Type 0 where
+  pub turn : IsJobTurn P n room r before result events
+  pub counted : AreCounted result events counts later
+
+-- so much for a request that asks for it, where there are n regions
+pub record StepsJobs (P : ℕ → History → Type 0) (n : ℕ) (room : ℕ → ℕ) (r : ℕ) (before : Events) (result : Result Answer DeskFault)
+    (counts later : Counts) (events : Events) : Type 0 where
+  pub turn : IsStepped P n room r before result events (nat_lt r n)
   pub counted : AreCounted result events counts later
 
 -- ---- one store of several

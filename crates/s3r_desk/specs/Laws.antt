@@ -4,7 +4,6 @@ use Rattle.s3r_world.specs.Image.{Image}
 use Rattle.s3r_history.specs.Words.{History}
 use Rattle.s3r_history.specs.declared.refusal.Refusal.{Refusal}
 use Rattle.s3r_history.specs.declared.refusal.Refusal.TheVariants as refusals
-use Rattle.s3r_store.specs.Stands.{StandsFor}
 use Rattle.s3r_desk.specs.declared.fault.DeskFault.{DeskFault}
 use Rattle.s3r_desk.specs.declared.request.Request.{Request}
 use Rattle.s3r_desk.specs.declared.request.Answer.{Answer}
@@ -52,6 +51,11 @@ may_leave (answer.Versioning enabled) = true
 may_leave (answer.Configuration config) = true
 may_leave (answer.Listing listing statuses) = true
 may_leave (answer.Copied outcome) = true
+may_leave (answer.JobMade id) = true
+may_leave (answer.JobSet id priority) = true
+may_leave (answer.JobMoved id state) = true
+may_leave (answer.JobStep outcome) = true
+may_leave (answer.Worked summary) = true
 
 -- No request is refused since a region isn't there, or by the number of a task: a configuration's regions are those of
 -- buckets that are, and no request asks for a task.
@@ -83,7 +87,7 @@ WhatIsKnownIsThere = (before events : Events) (r : ℕ) (h k : History) → IsWh
 -- What happens at a request is careful, whatever it comes to; the volumes being as they are seen.
 abbrev pub TurnsAreCareful : Type 0
 TurnsAreCareful = (n : ℕ) (room : ℕ → ℕ) (seen : Image) (before : Events) (request : Request) (result : Result Answer DeskFault) (events : Events)
-    → IsTurn (λ r h. StandsFor n r h (seen.volume r)) n room before request result events → AreCareful n before events
+    → IsTurn n room seen before request result events → AreCareful n before events
 
 -- no two regions that agree are told to disagree
 abbrev pub AgreeingIsNotTold : Type 0

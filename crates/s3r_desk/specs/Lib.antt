@@ -7,7 +7,12 @@ pub mod Keeping
 pub mod Lookups
 pub mod Stopping
 pub mod Copying
+pub mod JobTurns
+pub mod Damage
+pub mod Rounds
+pub mod Works
 pub mod Responds
 pub mod Happened
+pub mod Worked
 pub mod Committing
 pub mod Laws

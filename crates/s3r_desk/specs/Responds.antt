@@ -8,13 +8,17 @@ use Rattle.s3r_history.specs.Words.{History}
 use Rattle.s3r_history.specs.Accepts.{refusal}
 use Rattle.s3r_desk.specs.declared.committing.Committed.{Committed}
 use Rattle.s3r_desk.specs.declared.committing.Committed.TheVariants as committed
-use Rattle.s3r_store.specs.Stands.{StandsFor, DamagedAt}
+use Rattle.s3r_store.specs.Stands.{StandsFor}
 use Rattle.s3r_store.specs.Commits.{length_with}
 use Rattle.s3r_store.specs.declared.store.Store.{Store}
 use Rattle.s3r_desk.specs.declared.fault.DeskFault.{DeskFault}
 use Rattle.s3r_desk.specs.declared.fault.DeskFault.TheVariants as faults
 use Rattle.s3r_history.specs.declared.refusal.Refusal.TheVariants as refusals
 use Rattle.s3r_desk.specs.declared.copy_outcome.CopyOutcome.{CopyOutcome}
+use Rattle.s3r_desk.specs.declared.job_outcome.JobOutcome.{JobOutcome}
+use Rattle.s3r_desk.specs.declared.work_summary.WorkSummary.{WorkSummary}
+use Rattle.s3r_desk.specs.declared.turning.Turn.{Turn}
+use Rattle.s3r_desk.specs.declared.turning.Turn.TheVariants.{Step, Copy, Jobs, Work}
 use Rattle.s3r_desk.specs.declared.request.Request.{Request}
 use Rattle.s3r_desk.specs.declared.request.Request.TheVariants as request
 use Rattle.s3r_desk.specs.declared.request.Answer.{Answer}
@@ -22,10 +26,15 @@ use Rattle.s3r_desk.specs.declared.request.Answer.TheVariants as answer
 use Rattle.s3r_desk.specs.Events.{found, began, answered, Events, known, history_at}
 use Rattle.s3r_desk.specs.declared.planning.Plan.TheVariants.{Commits}
 use Rattle.s3r_desk.specs.declared.planning.Reply.{Reply}
-use Rattle.s3r_desk.specs.Steps.{Histories, Commit, Step, step, made_of, made, FitRooms}
+use Rattle.s3r_desk.specs.Steps as steps
+use Rattle.s3r_desk.specs.Steps.{Histories, Commit, step, made_of, made, FitRooms}
 use Rattle.s3r_desk.specs.Comparing.{disagreement}
 use Rattle.s3r_desk.specs.Stopping.{IsBegun, PassesRoom, IsStarved}
 use Rattle.s3r_desk.specs.Copying.{IsCopyTurn, AreCounted}
+use Rattle.s3r_desk.specs.JobTurns.{IsJobTurn}
+use Rattle.s3r_desk.specs.Damage.{IsDamage}
+use Rattle.s3r_desk.specs.Rounds.{rounds}
+use Rattle.s3r_desk.specs.Works.{Reads, Made, AreMade, worked}
 use Rattle.s3r_desk.specs.Keeping.{Keeps}
 use Rattle.s3r_desk.specs.Progress.{Happens}
 
@@ -88,25 +97,30 @@ pub record IsStepTurn (P : ℕ → History → Type 0) (n : ℕ) (room : ℕ →
   pub steps : (AreKnown (IsBelow n) (touched ++ before) × Steps n room (touched ++ before) request rest result)
       ⊎ ((rest ≡ []) × FailsToTouch (IsBelow n) (touched ++ before) result)
 
--- the two regions between which a request asks for a turn of the copier, where it does
-abbrev pub pair_of : Request → Option (ℕ × ℕ)
-pair_of (request.CreateBucket name region locked) = None
-pair_of (request.HeadBucket name) = None
-pair_of (request.DeleteBucket name) = None
-pair_of (request.PutVersioning name enabled) = None
-pair_of (request.GetVersioning name) = None
-pair_of (request.PutReplication name config) = None
-pair_of (request.GetReplication name) = None
-pair_of (request.DeleteReplication name) = None
-pair_of (request.ListVersions name prefix after limit) = None
-pair_of (request.PutObject b key body tags hold class) = None
-pair_of (request.GetObject b key version head) = None
-pair_of (request.DeleteObject b key version) = None
-pair_of (request.PutTags b key version tags gone) = None
-pair_of (request.GetTags b key version) = None
-pair_of (request.PutHold b key version hold) = None
-pair_of (request.GetHold b key version) = None
-pair_of (request.Copy from to) = Some (from, to)
+-- a request takes a turn of the copier, or of a region's jobs, or rounds of them, or is a step over all regions
+abbrev pub turn_of : Request → Turn
+turn_of (request.CreateBucket name region locked) = Step
+turn_of (request.HeadBucket name) = Step
+turn_of (request.DeleteBucket name) = Step
+turn_of (request.PutVersioning name enabled) = Step
+turn_of (request.GetVersioning name) = Step
+turn_of (request.PutReplication name config) = Step
+turn_of (request.GetReplication name) = Step
+turn_of (request.DeleteReplication name) = Step
+turn_of (request.ListVersions name prefix after limit) = Step
+turn_of (request.PutObject b key body tags hold class) = Step
+turn_of (request.GetObject b key version head) = Step
+turn_of (request.DeleteObject b key version) = Step
+turn_of (request.PutTags b key version tags gone) = Step
+turn_of (request.GetTags b key version) = Step
+turn_of (request.PutHold b key version hold) = Step
+turn_of (request.GetHold b key version) = Step
+turn_of (request.Copy from to) = Copy from to
+turn_of (request.CreateJob spec) = Step
+turn_of (request.SetJobPriority id priority) = Step
+turn_of (request.SetJobStatus id ready) = Step
+turn_of (request.JobTurn region) = Jobs region
+turn_of (request.Work rounds) = Work rounds
 
 -- what a turn came to, as its answer
 abbrev pub copied : Result CopyOutcome DeskFault → Result Answer DeskFault
@@ -119,27 +133,42 @@ IsCopied P room s d before result events true =
     (outcome : Result CopyOutcome DeskFault) × (result ≡ copied outcome) × IsCopyTurn P room s d before outcome events
 IsCopied P room s d before result events false = (result ≡ Ok (answer.Refused refusals.InvalidArgument)) × (events ≡ [])
 
-abbrev pub TurnsBy : Option (ℕ × ℕ) → (ℕ → History → Type 0) → ℕ → (ℕ → ℕ) → Events → Request → Result Answer DeskFault → Events → Type 0
-TurnsBy None P n room before request result events = IsStepTurn P n room before request result events
-TurnsBy (Some pair) P n room before request result events =
-    IsCopied P room pair.0 pair.1 before result events (nat_lt pair.0 n && nat_lt pair.1 n)
+-- what a turn of jobs came to, as its answer
+abbrev pub stepped : Result JobOutcome DeskFault → Result Answer DeskFault
+stepped (Ok outcome) = Ok (answer.JobStep outcome)
+stepped (Err fault) = Err fault
 
--- a request is a turn of the copier between its two regions, or a step over all of them
-abbrev pub IsTurn : (ℕ → History → Type 0) → ℕ → (ℕ → ℕ) → Events → Request → Result Answer DeskFault → Events → Type 0
-IsTurn P n room before request result events = TurnsBy (pair_of request) P n room before request result events
+-- The turn of a region's jobs is made where the region is there. Else nothing is touched.
+abbrev pub IsStepped : (ℕ → History → Type 0) → ℕ → (ℕ → ℕ) → ℕ → Events → Result Answer DeskFault → Events → Bool → Type 0
+IsStepped P n room r before result events true =
+    (outcome : Result JobOutcome DeskFault) × (result ≡ stepped outcome) × IsJobTurn P n room r before outcome events
+IsStepped P n room r before result events false = (result ≡ Ok (answer.Refused refusals.InvalidArgument)) × (events ≡ [])
+
+-- what rounds came to, as their answer
+abbrev pub as_worked : Result WorkSummary DeskFault → Result Answer DeskFault
+as_worked (Ok summary) = Ok (answer.Worked summary)
+as_worked (Err fault) = Err fault
+
+-- The turns of so many rounds are made in order, up to the first fault. Where there is no memory none is made.
+abbrev pub IsWorked : ℕ → (ℕ → ℕ) → Image → ℕ → Events → Result Answer DeskFault → Events → Type 0
+IsWorked n room seen k before result events =
+    ((made : Made) × AreMade (rounds k n) n room seen before [] made events × (result ≡ as_worked (worked k made)))
+    ⊎ ((result ≡ Err faults.OutOfMemory) × (events ≡ []))
+
+abbrev pub TurnsBy : Turn → ℕ → (ℕ → ℕ) → Image → Events → Request → Result Answer DeskFault → Events → Type 0
+TurnsBy Step n room seen before request result events = IsStepTurn (Reads n seen) n room before request result events × IsDamage n seen result
+TurnsBy (Copy s d) n room seen before request result events =
+    IsCopied (Reads n seen) room s d before result events (nat_lt s n && nat_lt d n) × IsDamage n seen result
+TurnsBy (Jobs r) n room seen before request result events = IsStepped (Reads n seen) n room r before result events (nat_lt r n) × IsDamage n seen result
+TurnsBy (Work k) n room seen before request result events = IsWorked n room seen k before result events
+
+-- a request takes its turn, the volumes being as they are seen
+abbrev pub IsTurn : ℕ → (ℕ → ℕ) → Image → Events → Request → Result Answer DeskFault → Events → Type 0
+IsTurn n room seen before request result events = TurnsBy (turn_of request) n room seen before request result events
 
 -- what a volume's bytes stand for
 abbrev pub AsRead : ℕ → Outside → ℕ → History → Type 0
 AsRead n w r h = StandsFor n r h (w.as_read.volume r)
-
--- damage is where the volume stands for no lawful history
-abbrev pub IsDamage : {A : Type 0} → ℕ → Image → Result A DeskFault → Type 0
-IsDamage n c (Ok a) = Unit {0}
-IsDamage n c (Err (faults.Volume v)) = Unit {0}
-IsDamage n c (Err (faults.Full v)) = Unit {0}
-IsDamage n c (Err (faults.Damaged v offset)) = DamagedAt n v offset (c.volume v) × ((k : History) → StandsFor n v k (c.volume v) → ⊥)
-IsDamage n c (Err (faults.Disagree from to sent last settled received)) = Unit {0}
-IsDamage n c (Err faults.OutOfMemory) = Unit {0}
 
 -- a touch of this region failed
 abbrev pub FailsAt : {A : Type 0} → ℕ → Result A DeskFault → Type 0
@@ -175,7 +204,7 @@ CommitsOne before n r h c room (Err faults.OutOfMemory) b old new = (refusal n r
     × Happens n (began r c ∷ []) old new
 
 -- A step was made, all regions being read: whole, or its commit is in doubt, or nothing was done.
-pub record Came (before : Events) (s : Step) (result : Result Answer DeskFault) (room : ℕ → ℕ) (a b : List Store) (old new : Outside) : Type 0 where
+pub record Came (before : Events) (s : steps.Step) (result : Result Answer DeskFault) (room : ℕ → ℕ) (a b : List Store) (old new : Outside) : Type 0 where
   pub rest : Events
   pub comes : Comes room (history_at before) s.commits s.reply rest result
   pub keeps : Keeps (rest ++ before) b new
@@ -196,10 +225,9 @@ Makes before r c reply result room a b old new = Came before (made_of (length a)
 pub record Responds (before : Events) (request : Request) (result : Result Answer DeskFault) (room : ℕ → ℕ) (a b : List Store) (old new : Outside)
     (counts later : Counts) : Type 0 where
   pub events : Events
-  pub turn : IsTurn (AsRead (length a) old) (length a) room before request result events
+  pub turn : IsTurn (length a) room old.as_read before request result events
   pub keeps : Keeps (events ++ before) b new
   pub happens : Happens (length a) events old new
-  pub damage : IsDamage (length a) old.as_read result
   pub counted : AreCounted result events counts later
 
 -- a fault was counted, and is told of its volume

@@ -1,10 +1,20 @@
 -- What each request comes to, by the histories of all regions.
-use Rattle.std.specs.Prelude.{ℕ, zero, suc, ◌+◌, ◌<◌, ◌≤◌, ◌==◌, Bool, true, false, nat_lt, map, List, [], ◌∷◌, ◌++◌, length, Option, Some, None, Result, Ok, Err, is_some, if◌then◌else◌, IsTrue}
+use Rattle.std.specs.Prelude.{ℕ, zero, suc, ◌+◌, ◌<◌, ◌≤◌, ◌==◌, Bool, true, false, nat_lt, map, List, [], ◌∷◌, ◌++◌, length, Option, Some, None, Result, Ok, Err, is_some, is_none, if◌then◌else◌, IsTrue}
 use Rattle.s3r_names.specs.declared.version.VersionId.{VersionId}
 use Rattle.s3r_names.specs.Version.{IsVersionId}
 use Rattle.s3r_names.specs.declared.outcome.Status.{Status}
 use Rattle.s3r_names.specs.declared.outcome.Status.TheVariants as status
 use Rattle.s3r_names.specs.Tags.{is_tag_set}
+use Rattle.s3r_jobs.specs.declared.spec.JobSpec.{JobSpec}
+use Rattle.s3r_jobs.specs.declared.spec.Operation.{Operation}
+use Rattle.s3r_jobs.specs.declared.spec.Operation.TheVariants as operations
+use Rattle.s3r_jobs.specs.declared.spec.ReportSpec.{ReportSpec}
+use Rattle.s3r_jobs.specs.declared.state.JobState.{JobState}
+use Rattle.s3r_jobs.specs.declared.state.JobState.TheVariants as states
+use Rattle.s3r_jobs.specs.Facts.{JobFacts}
+use Rattle.s3r_jobs.specs.Jobs.{JobsFacts, token_job}
+use Rattle.s3r_jobs.specs.Rules.{IsJobSpec}
+use Rattle.s3r_jobs.specs.Same.{same_spec}
 use Rattle.std.specs.Str.{bytes_eq}
 use Rattle.s3r_names.specs.Bucket.{is_bucket_name}
 use Rattle.s3r_rules.specs.Rules.{is_config}
@@ -24,7 +34,9 @@ use Rattle.s3r_history.specs.Past.{Entry}
 use Rattle.s3r_history.specs.BucketView.{BucketView}
 use Rattle.s3r_history.specs.RegionView.{view}
 use Rattle.s3r_history.specs.Told.{told}
-use Rattle.s3r_history.specs.Accepts.{refusal}
+use Rattle.s3r_history.specs.Deeds.{deeds}
+use Rattle.s3r_history.specs.Jobs.{jobs_at}
+use Rattle.s3r_history.specs.Accepts.{refusal, takes_none}
 use Rattle.s3r_history.specs.declared.replication.Replication.{Replication}
 use Rattle.s3r_history.specs.declared.refusal.Refusal.{Refusal}
 use Rattle.s3r_history.specs.declared.refusal.Refusal.TheVariants as refusals
@@ -37,7 +49,7 @@ use Rattle.s3r_desk.specs.declared.request.ObjectMetadata.{ObjectMetadata}
 use Rattle.s3r_desk.specs.declared.planning.Plan.{Plan}
 use Rattle.s3r_desk.specs.declared.planning.Plan.TheVariants.{Shows, Fetches, Commits}
 use Rattle.s3r_desk.specs.declared.planning.Reply.{Reply}
-use Rattle.s3r_desk.specs.declared.planning.Reply.TheVariants.{Is, Written, Marked}
+use Rattle.s3r_desk.specs.declared.planning.Reply.TheVariants.{Is, Written, Marked, Created}
 use Rattle.s3r_desk.specs.Events.{found, began, Events}
 
 -- each region's history
@@ -53,6 +65,10 @@ Views = ℕ → Name → Option BucketView
 -- the status of a version of a bucket in each region, where it is there
 abbrev pub VersionStatuses : Type 0
 VersionStatuses = ℕ → Name → Name → VersionId → Option Status
+
+-- which jobs each region has
+abbrev pub RegionJobs : Type 0
+RegionJobs = ℕ → JobsFacts
 
 abbrev pub refuses : Refusal → Plan
 refuses why = Shows (answer.Refused why)
@@ -215,37 +231,99 @@ abbrev pub dropping : Name → BucketLocation → Option Replication → Plan
 dropping b h None = Shows (answer.Gone None false)
 dropping b h (Some r) = commits_at h (command.DropReplication b) (Is (answer.Gone None false))
 
+-- ---- jobs
+
+-- a job's id has the index of the command that created it
+abbrev pub job_id : ℕ → ℕ → VersionId
+job_id r index = record { region = r; index = index }
+
+-- the report's bucket isn't in the region, or takes no new version
+abbrev pub lacks_report : (Name → Option BucketView) → Option ReportSpec → Bool
+lacks_report at None = false
+lacks_report at (Some report) = takes_none (at report.bucket)
+
+-- the bucket into which is to be copied isn't in the region
+abbrev pub lacks_target : (Name → Option BucketView) → Operation → Bool
+lacks_target at (operations.Copy target prefix) = is_none (at target)
+lacks_target at (operations.Tagging tags) = false
+lacks_target at (operations.Hold hold) = false
+lacks_target at operations.Replicate = false
+
+-- a job over the version that is its manifest
+abbrev pub over_manifest : JobSpec → BucketLocation → Plan
+over_manifest spec h =
+    with_object (λ row. commits_at h (command.CreateJob spec row.id) Created) (object_at spec.manifest.key spec.manifest.version h)
+
+-- a new job, in a region that tells this of its buckets
+abbrev pub new_job : (Name → Option BucketView) → JobSpec → BucketLocation → Plan
+new_job at spec h =
+    if lacks_report at spec.report then refuses (refusals.InvalidRequest 0 kind.Report)
+    else if lacks_target at spec.operation then refuses (refusals.InvalidRequest 0 kind.Target)
+    else over_manifest spec h
+
+-- the job that the token made is made again, or another one is asked for by it
+abbrev pub job_again : ℕ → JobSpec → JobFacts → Plan
+job_again r spec job = if same_spec job.spec spec then Shows (answer.JobMade (job_id r job.id)) else refuses (refusals.Idempotency (job_id r job.id))
+
+abbrev pub unless_made : Plan → ℕ → JobSpec → Option JobFacts → Plan
+unless_made plan r spec None = plan
+unless_made plan r spec (Some job) = job_again r spec job
+
+abbrev pub job_creation : Views → RegionJobs → JobSpec → BucketLocation → Plan
+job_creation views jobs spec h =
+    unless_made (new_job (views h.region) spec h) h.region spec (token_job spec.token (jobs h.region))
+
+-- a job whose id is of an id's form, in one of n regions
+abbrev pub at_job : ℕ → (VersionId → Plan) → Option VersionId → Plan
+at_job n plan None = refuses refusals.NoSuchJob
+at_job n plan (Some id) = if nat_lt id.region n then plan id else refuses refusals.NoSuchJob
+
+abbrev pub prioritized : ℕ → VersionId → Plan
+prioritized priority id = Commits id.region (command.SetPriority id.index priority) (Is (answer.JobSet id priority))
+
+-- the state that a client asks for
+abbrev pub state_asked : Bool → JobState
+state_asked ready = if ready then states.Ready else states.Cancelling
+
+abbrev pub moved : JobState → VersionId → Plan
+moved state id = Commits id.region (command.MoveJob id.index state) (Is (answer.JobMoved id state))
+
 -- ---- each request
 
-abbrev pub plan : ℕ → Views → VersionStatuses → Request → Plan
-plan n views statuses (request.CreateBucket name region locked) = creation n name locked (location n views name) region
-plan n views statuses (request.HeadBucket name) = at_location (λ h. Shows answer.Done) (location n views name)
-plan n views statuses (request.DeleteBucket name) =
+abbrev pub plan : ℕ → Views → VersionStatuses → RegionJobs → Request → Plan
+plan n views statuses jobs (request.CreateBucket name region locked) = creation n name locked (location n views name) region
+plan n views statuses jobs (request.HeadBucket name) = at_location (λ h. Shows answer.Done) (location n views name)
+plan n views statuses jobs (request.DeleteBucket name) =
     at_location (λ h. commits_at h (command.DeleteBucket name) (Is (answer.Gone None false))) (location n views name)
-plan n views statuses (request.PutVersioning name enabled) = at_location (λ h. commits_at h (command.SetVersioning name enabled) (Is answer.Done))
+plan n views statuses jobs (request.PutVersioning name enabled) = at_location (λ h. commits_at h (command.SetVersioning name enabled) (Is answer.Done))
     (location n views name)
-plan n views statuses (request.GetVersioning name) = at_location (λ h. Shows (answer.Versioning h.told.enabled)) (location n views name)
-plan n views statuses (request.PutReplication name config) = at_location (replication (location n views) name config) (location n views name)
-plan n views statuses (request.GetReplication name) = at_location (λ h. configuration h.told.config) (location n views name)
-plan n views statuses (request.DeleteReplication name) = at_location (λ h. dropping name h h.told.config) (location n views name)
-plan n views statuses (request.ListVersions name prefix after limit) = at_location (λ h. page (statuses h.region name) prefix after limit h.told)
+plan n views statuses jobs (request.GetVersioning name) = at_location (λ h. Shows (answer.Versioning h.told.enabled)) (location n views name)
+plan n views statuses jobs (request.PutReplication name config) = at_location (replication (location n views) name config) (location n views name)
+plan n views statuses jobs (request.GetReplication name) = at_location (λ h. configuration h.told.config) (location n views name)
+plan n views statuses jobs (request.DeleteReplication name) = at_location (λ h. dropping name h h.told.config) (location n views name)
+plan n views statuses jobs (request.ListVersions name prefix after limit) = at_location (λ h. page (statuses h.region name) prefix after limit h.told)
     (location n views name)
-plan n views statuses (request.PutObject b key body tags hold class) = at_location (λ h. commits_at h (command.Put b key tags hold class body) Written)
+plan n views statuses jobs (request.PutObject b key body tags hold class) = at_location (λ h. commits_at h (command.Put b key tags hold class body) Written)
     (location n views b)
-plan n views statuses (request.GetObject b key version head) = at_location (object_asked statuses b key version head) (location n views b)
-plan n views statuses (request.DeleteObject b key version) = at_location (deletion b key version) (location n views b)
-plan n views statuses (request.PutTags b key version tags gone) =
+plan n views statuses jobs (request.GetObject b key version head) = at_location (object_asked statuses b key version head) (location n views b)
+plan n views statuses jobs (request.DeleteObject b key version) = at_location (deletion b key version) (location n views b)
+plan n views statuses jobs (request.PutTags b key version tags gone) =
     at_location (λ h. with_object (λ row. commits_at h (command.SetTags b key row.id tags) (tags_reply gone row.id)) (object_at key version h))
     (location n views b)
-plan n views statuses (request.GetTags b key version) = at_location (λ h. with_object (λ row. Shows (answer.TagSet row.tags)) (object_at key version h))
+plan n views statuses jobs (request.GetTags b key version) = at_location (λ h. with_object (λ row. Shows (answer.TagSet row.tags)) (object_at key version h))
     (location n views b)
-plan n views statuses (request.PutHold b key version hold) =
+plan n views statuses jobs (request.PutHold b key version hold) =
     at_location (λ h. if_locked h (with_object (λ row. commits_at h (command.SetHold b key row.id hold) (Is (answer.Written row.id)))
     (object_at key version h))) (location n views b)
-plan n views statuses (request.GetHold b key version) =
+plan n views statuses jobs (request.GetHold b key version) =
     at_location (λ h. if_locked h (with_object (λ row. Shows (answer.Hold row.hold)) (object_at key version h))) (location n views b)
--- a turn of the copier is no step over all regions
-plan n views statuses (request.Copy from to) = refuses refusals.InvalidArgument
+-- a turn of the copier or of a region's jobs, or rounds of them, is no step over all regions
+plan n views statuses jobs (request.Copy from to) = refuses refusals.InvalidArgument
+plan n views statuses jobs (request.CreateJob spec) = at_location (job_creation views jobs spec) (location n views spec.manifest.bucket)
+plan n views statuses jobs (request.SetJobPriority id priority) = at_job n (prioritized priority) id
+plan n views statuses jobs (request.SetJobStatus id ready) = at_job n (moved (state_asked ready)) id
+plan n views statuses jobs (request.JobTurn region) = refuses refusals.InvalidArgument
+plan n views statuses jobs (request.Work rounds) = refuses refusals.InvalidArgument
 
 -- ---- the step
 
@@ -275,6 +353,7 @@ abbrev pub reply_at : ℕ → ℕ → Reply → Answer
 reply_at r index (Is reply) = reply
 reply_at r index Written = answer.Written (record { region = r; index = index })
 reply_at r index Marked = answer.Gone (Some (record { region = r; index = index })) true
+reply_at r index Created = answer.JobMade (job_id r index)
 
 abbrev pub made_of : ℕ → Histories → Plan → Step
 made_of n at (Shows reply) = answers reply
@@ -289,8 +368,12 @@ views at r b = told r (at r) b
 abbrev pub statuses : Histories → VersionStatuses
 statuses at r b key id = (view r (at r)).status b key id
 
+-- and of jobs
+abbrev pub jobs : Histories → RegionJobs
+jobs at r = jobs_at (deeds r (at r))
+
 abbrev pub step : ℕ → Histories → Request → Step
-step n at request = made_of n at (plan n (views at) (statuses at) request)
+step n at request = made_of n at (plan n (views at) (statuses at) (jobs at) request)
 
 -- an id that is named meets its rule
 abbrev pub IsNamed : Option VersionId → Type 0
@@ -316,6 +399,11 @@ IsRequest (request.GetTags b key version) = Unit {0}
 IsRequest (request.PutHold b key version hold) = IsCommand (command.Marker b key)
 IsRequest (request.GetHold b key version) = Unit {0}
 IsRequest (request.Copy from to) = Unit {0}
+IsRequest (request.CreateJob spec) = IsJobSpec spec
+IsRequest (request.SetJobPriority id priority) = IsNamed id × (priority ≤ 2147483647)
+IsRequest (request.SetJobStatus id ready) = IsNamed id
+IsRequest (request.JobTurn region) = Unit {0}
+IsRequest (request.Work rounds) = Unit {0}
 
 -- the histories with one command more
 abbrev pub after_commit : Commit → Histories → Histories

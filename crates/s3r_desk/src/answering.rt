@@ -33,6 +33,7 @@ fn reply_at(region: usize, index: u64, reply: Reply) -> Answer
             id: Some(id),
             marker: true,
         },
+        Reply::Created => Answer::JobMade(id),
     }
 }
 

@@ -7,7 +7,8 @@ ghost use Rattle.s3r_desk.specs.Events.{Events};
 ghost use Rattle.s3r_desk.specs.Comparing.{seen_fault};
 ghost use Rattle.s3r_desk.specs.Copying.{tried, is_missed, IsNoDamage};
 ghost use Rattle.s3r_desk.specs.Keeping.{Keeps, AreNumbered, AreTied};
-ghost use Rattle.s3r_desk.specs.Responds.{AsRead, HasCause, IsDamage};
+ghost use Rattle.s3r_desk.specs.Damage.{IsDamage};
+ghost use Rattle.s3r_desk.specs.Responds.{AsRead, HasCause};
 ghost use Rattle.s3r_desk.specs.Happened.{Happened, IsTried, IsSettled, IsDelivered, Carries, Misses, Copies, IsReadAt, IsAcceptedAt, IsFirstDueAt, IsDueAt, AreLeftBut, StoreHas};
 
 use crate::comparing::pair_fault;
@@ -57,6 +58,7 @@ fn note_attempt<W: World>(
         (W.outside world.old) (W.outside world.new) }
     ensures count { length stores.new.items ≡ length stores.old.items }
     ensures numbered { AreNumbered stores.new.items }
+    ensures tied { IsTrue W.tells → AreTied stores.new.items (W.outside world.new) }
     ensures undamaged { IfErr result IsNoDamage }
     ensures cause { HasCause (length stores.old.items) result (W.faults world.old) (W.faults world.new) }
     ensures counts { NoneFalls (W.faults world.old) (W.faults world.new) }
@@ -152,6 +154,7 @@ fn settle<W: World>(
         (W.outside world.old) (W.outside world.new) }
     ensures count { length stores.new.items ≡ length stores.old.items }
     ensures numbered { AreNumbered stores.new.items }
+    ensures tied { IsTrue W.tells → AreTied stores.new.items (W.outside world.new) }
     ensures undamaged { IfErr result IsNoDamage }
     ensures cause { HasCause (length stores.old.items) result (W.faults world.old) (W.faults world.new) }
     ensures counts { NoneFalls (W.faults world.old) (W.faults world.new) }
@@ -208,6 +211,7 @@ fn carry<W: World>(
         stores.new.items (W.outside world.old) (W.outside world.new) }
     ensures count { length stores.new.items ≡ length stores.old.items }
     ensures numbered { AreNumbered stores.new.items }
+    ensures tied { IsTrue W.tells → AreTied stores.new.items (W.outside world.new) }
     ensures undamaged { IfErr result IsNoDamage }
     ensures cause { HasCause (length stores.old.items) result (W.faults world.old) (W.faults world.new) }
     ensures counts { NoneFalls (W.faults world.old) (W.faults world.new) }
@@ -273,6 +277,7 @@ fn carry_first<W: World>(
         stores.new.items (W.outside world.old) (W.outside world.new) }
     ensures count { length stores.new.items ≡ length stores.old.items }
     ensures numbered { AreNumbered stores.new.items }
+    ensures tied { IsTrue W.tells → AreTied stores.new.items (W.outside world.new) }
     ensures undamaged { IfErr result IsNoDamage }
     ensures cause { HasCause (length stores.old.items) result (W.faults world.old) (W.faults world.new) }
     ensures counts { NoneFalls (W.faults world.old) (W.faults world.new) }
@@ -311,6 +316,7 @@ fn miss<W: World>(
         stores.new.items (W.outside world.old) (W.outside world.new) }
     ensures count { length stores.new.items ≡ length stores.old.items }
     ensures numbered { AreNumbered stores.new.items }
+    ensures tied { IsTrue W.tells → AreTied stores.new.items (W.outside world.new) }
     ensures undamaged { IfErr result IsNoDamage }
     ensures cause { result ≡ Err (DeskFault.Volume to) ⊎ HasCause (length stores.old.items) result (W.faults world.old) (W.faults world.new) }
     ensures counts { NoneFalls (W.faults world.old) (W.faults world.new) }
@@ -352,6 +358,7 @@ pub fn copy_turn<W: World>(
     ensures damage { IsTrue W.tells → IsDamage (length stores.old.items) (W.outside world.old).as_read result }
     ensures count { length stores.new.items ≡ length stores.old.items }
     ensures numbered { AreNumbered stores.new.items }
+    ensures tied { IsTrue W.tells → AreTied stores.new.items (W.outside world.new) }
     ensures cause { HasCause (length stores.old.items) result (W.faults world.old) (W.faults world.new) }
     ensures counts { NoneFalls (W.faults world.old) (W.faults world.new) }
     ensures goes { W.goes world.old world.new }

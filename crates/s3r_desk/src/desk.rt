@@ -2,7 +2,8 @@
 ghost use Rattle.std.specs.Prelude.{◌≡◌, ◌≤◌, ℕ, IfOk, length};
 ghost use Rattle.s3r_desk.specs.Keeping.{AreNumbered};
 
-use crate::turning::{copy_between, pair_of, step_over_all};
+use crate::turning::{Turn, copy_between, jobs_of, step_over_all, turn_of};
+use crate::working::work;
 use crate::{Answer, DeskFault, Request};
 use s3r_store::Store;
 use s3r_world::World;
@@ -36,8 +37,9 @@ impl Desk {
         Ok(Desk { stores })
     }
 
-    /// Makes the request's turn: a turn of the copier touches its two regions alone; every other request touches all regions
-    /// in order, compares all pairs, and makes its step: its commits in order, and its answer.
+    /// Makes the request's turn: a turn of the copier touches its two regions alone, and one of a region's jobs that region;
+    /// every other request touches all regions in order, compares all pairs, and makes its step: its commits in order, and
+    /// its answer.
     ///
     /// `Damaged` is told by a touch, and no step is made then. `Full` tells a step that was not made. After `Volume` no
     /// step was made, or the commit to that volume is in doubt; so it may be after `OutOfMemory`. A region in doubt is
@@ -63,12 +65,23 @@ impl Desk {
         ensures goes { W.goes world.old world.new }
         ensures shape { KeepsShape (W.shape world.old) (W.shape world.new) }
     {
-        match pair_of(&request) {
-            Some((from, to)) => {
+        match turn_of(&request) {
+            Turn::Step => step_over_all(alloc, world, &mut self.stores, request),
+            Turn::Copy { from, to } => {
                 drop(request);
                 copy_between(alloc, world, &mut self.stores, from, to)
             }
-            None => step_over_all(alloc, world, &mut self.stores, request),
+            Turn::Jobs { region } => {
+                drop(request);
+                jobs_of(alloc, world, &mut self.stores, region)
+            }
+            Turn::Work { rounds } => {
+                drop(request);
+                match work(alloc, world, &mut self.stores, rounds) {
+                    Ok(summary) => Ok(Answer::Worked(summary)),
+                    Err(fault) => Err(fault),
+                }
+            }
         }
     }
 }

@@ -2,11 +2,12 @@
 ghost use Rattle.std.specs.Prelude.{◌≡◌, ◌<◌, ◌≤◌, ℕ, IfOk, IfSome, option_map, length};
 ghost use Rattle.s3r_record.specs.Spelling.{IsCommand};
 ghost use Rattle.s3r_desk.specs.Steps.{IsRequest, FitsIn, refuses, at_location, commits_at, plan};
-ghost use Rattle.s3r_desk.specs.Lookups.{views_of, statuses_of, seen_location};
+ghost use Rattle.s3r_desk.specs.Lookups.{views_of, statuses_of, jobs_of, seen_location};
 
 use crate::bucket::{create_bucket, head_bucket};
 use crate::bucket_location::BucketLocation;
 use crate::finding::location_of;
+use crate::job::{create_job, set_job_priority, set_job_status};
 use crate::legal_hold::{get_hold, put_hold};
 use crate::listing::list_versions;
 use crate::object::{delete_object, get_object};
@@ -47,6 +48,8 @@ pub enum Reply {
     Written,
     /// The id that it gives to its marker.
     Marked,
+    /// The id that it gives to its job.
+    Created,
 }
 
 pub(crate) fn refuses(why: Refusal) -> Plan
@@ -75,7 +78,7 @@ fn commits(location: Option<BucketLocation<'_>>, command: Command, reply: Reply)
 pub fn plan_of(alloc: Global, stores: &[Store], request: Request) -> Result<Plan, AllocError>
     requires few { length stores.now ≤ 8 }
     requires fits { IsRequest request }
-    ensures planned { IfOk result (λ p. p ≡ plan (length stores.now) (views_of stores.now) (statuses_of stores.now) request) }
+    ensures planned { IfOk result (λ p. p ≡ plan (length stores.now) (views_of stores.now) (statuses_of stores.now) (jobs_of stores.now) request) }
     ensures fits { IfOk result (λ p. FitsIn (length stores.now) p) }
 {
     match request {
@@ -173,7 +176,14 @@ pub fn plan_of(alloc: Global, stores: &[Store], request: Request) -> Result<Plan
             key,
             version,
         } => Ok(get_hold(location_of(stores, &bucket), key, version)),
-        // A turn of the copier is no step over all regions.
-        Request::Copy { .. } => Ok(refuses(Refusal::InvalidArgument)),
+        Request::CreateJob { spec } => Ok(create_job(stores, spec)),
+        Request::SetJobPriority { id, priority } => {
+            Ok(set_job_priority(stores.len(), id, priority))
+        }
+        Request::SetJobStatus { id, ready } => Ok(set_job_status(stores.len(), id, ready)),
+        // A turn of the copier or of a region's jobs, or rounds of them, is no step over all regions.
+        Request::Copy { .. } | Request::JobTurn { .. } | Request::Work { .. } => {
+            Ok(refuses(Refusal::InvalidArgument))
+        }
     }
 }

@@ -1,8 +1,9 @@
 //! What is asked of the desk, and what it answers.
 ghost use Rattle.std.specs.Prelude.{◌≡◌};
 
-use crate::CopyOutcome;
+use crate::{CopyOutcome, JobOutcome, WorkSummary};
 use s3r_history::Refusal;
+use s3r_jobs::{JobSpec, JobState};
 use s3r_names::{BucketName, Bytes, ClassName, Key, Status, TagSet, Text, VersionId};
 use s3r_rules::Config;
 use s3r_versions::{ListPosition, Listing};
@@ -106,6 +107,28 @@ pub enum Request {
         from: u32,
         to: u32,
     },
+    /// A new job over the lines of a manifest. The token of one that is there asks for that one again.
+    CreateJob {
+        spec: JobSpec,
+    },
+    /// A job has this priority from now on. None stands for an id of another form.
+    SetJobPriority {
+        id: Option<VersionId>,
+        priority: u32,
+    },
+    /// A job that waits for its confirmation is Ready, where `ready` says so; else it is cancelled.
+    SetJobStatus {
+        id: Option<VersionId>,
+        ready: bool,
+    },
+    /// A turn of a region's jobs: the next step among them is made.
+    JobTurn {
+        region: u32,
+    },
+    /// So many rounds of turns of the copier and of jobs.
+    Work {
+        rounds: u32,
+    },
 }
 
 /// What is told of a version beside its body.
@@ -189,4 +212,20 @@ pub enum Answer {
     },
     /// What a turn of the copier came to.
     Copied(CopyOutcome),
+    /// The job was created, now or before.
+    JobMade(VersionId),
+    /// The job has this priority.
+    JobSet {
+        id: VersionId,
+        priority: u32,
+    },
+    /// The job came to this state.
+    JobMoved {
+        id: VersionId,
+        state: JobState,
+    },
+    /// What a turn of a region's jobs came to.
+    JobStep(JobOutcome),
+    /// What rounds of work came to.
+    Worked(WorkSummary),
 }

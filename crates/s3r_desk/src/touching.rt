@@ -5,7 +5,8 @@ ghost use Rattle.s3r_history.specs.Words.{History};
 ghost use Rattle.s3r_store.specs.Knows.{Ties, Holds};
 ghost use Rattle.s3r_desk.specs.Events.{Events};
 ghost use Rattle.s3r_desk.specs.Keeping.{Keeps, AreNumbered, AreTied, AreRead};
-ghost use Rattle.s3r_desk.specs.Responds.{Touches, AsRead, FailsAt, IsDamage, HasCause};
+ghost use Rattle.s3r_desk.specs.Damage.{IsDamage};
+ghost use Rattle.s3r_desk.specs.Responds.{Touches, AsRead, FailsAt, HasCause};
 ghost use Rattle.s3r_desk.specs.Happened.{Happened, IsTouch, IsReadAt, StoreHas, AreLeftBut};
 
 use crate::DeskFault;

@@ -26,7 +26,7 @@ use Rattle.s3r_desk.specs.Stopping.{PassesRoom}
 use Rattle.s3r_desk.specs.Comparing.{is_within, pair_fault}
 use Rattle.s3r_desk.specs.Careful.{IsWhatIsKnown}
 use Rattle.s3r_desk.specs.Copying.{due_of, clean, IsUnread, IsNoted, IsCopyTurn, attempts_about, fails_at, AreCounted}
-use Rattle.s3r_desk.specs.Responds.{IsDamage}
+use Rattle.s3r_desk.specs.Damage.{IsDamage}
 use Rattle.s3r_drain.specs.CleanTurns.{is_clean, IsUndisturbed, UndisturbedTurnsAreClean}
 use Rattle.s3r_drain.proofs.Leading.{AreAlike, alike-then, IsOneOf, both-alike, clean-alike, clean-between, known-now}
 

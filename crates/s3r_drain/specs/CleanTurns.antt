@@ -15,7 +15,7 @@ use Rattle.s3r_desk.specs.Events.{found, began, answered, Events}
 use Rattle.s3r_desk.specs.Steps.{Histories, FitRooms}
 use Rattle.s3r_desk.specs.Careful.{IsWhatIsKnown, LeadAll}
 use Rattle.s3r_desk.specs.Copying.{due_of, outcome_at, clean, attempt, IsCopyTurn, AreCounted}
-use Rattle.s3r_desk.specs.Responds.{IsDamage}
+use Rattle.s3r_desk.specs.Damage.{IsDamage}
 use Rattle.s3r_drain.specs.Drain.{turned, turns, pending}
 
 -- the turn was clean: nothing was due, or what was due is settled

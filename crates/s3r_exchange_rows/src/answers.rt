@@ -148,6 +148,8 @@ fn refusal_named(name: &str) -> Option<Refusal> {
         "TooManyBuckets" => Some(Refusal::TooManyBuckets),
         "InvalidLocation" => Some(Refusal::InvalidLocation),
         "InvalidArgument" => Some(Refusal::InvalidArgument),
+        "NoSuchJob" => Some(Refusal::NoSuchJob),
+        "TooManyJobs" => Some(Refusal::TooManyJobs),
         _ => None,
     }
 }

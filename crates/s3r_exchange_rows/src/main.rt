@@ -6,6 +6,7 @@ mod answers;
 mod copies;
 mod escape;
 mod framing;
+mod jobs;
 mod listings;
 mod requests;
 mod row;
@@ -21,13 +22,21 @@ fn text_of(alloc: Global, row: &str) -> Result<String, RowFault> {
         "framing" => framing::framing(alloc, cells),
         "target" => requests::target(alloc, cells),
         "lines" => requests::lines(alloc, cells),
-        "body" => requests::body(alloc, cells),
+        "body" => requests::body(alloc, "PUT", cells),
+        "post" => requests::body(alloc, "POST", cells),
         "response" => answers::response(alloc, cells),
         "done" => answers::done(alloc, cells),
         "written" => answers::written(alloc, cells),
         "object" => answers::object(alloc, cells),
         "listing" => listings::listing(alloc, cells),
         "copied" => copies::copied(alloc, cells),
+        "made" => jobs::made(alloc, cells),
+        "set" => jobs::set(alloc, cells),
+        "moved" => jobs::moved(alloc, cells),
+        "step" => jobs::step(alloc, cells),
+        "worked" => jobs::worked(alloc, cells),
+        "no move" => jobs::no_move(alloc, cells),
+        "other job" => jobs::other_job(alloc, cells),
         "refusal" => answers::refusal(alloc, cells),
         "fault" => answers::fault(alloc, cells),
         _ => Err(RowFault::NoRow),

@@ -4,6 +4,7 @@ use crate::escape::unescaped;
 use crate::framing::{WHOLE, taken};
 use crate::row::{RowFault, first_cell};
 use s3r_desk::{ListPosition, Request};
+use s3r_jobs::{JobSpec, Operation};
 use s3r_names::VersionId;
 use std::alloc::{AllocError, Global};
 
@@ -19,6 +20,66 @@ fn place_text(alloc: Global, after: &Option<ListPosition>) -> Result<String, All
     match after {
         Some(place) => format!(in alloc; "{} {}", place.key.as_str(), index_of(&place.id)),
         None => String::from_str(alloc, "-"),
+    }
+}
+
+fn operation_text(alloc: Global, operation: &Operation) -> Result<String, AllocError> {
+    match operation {
+        Operation::Tagging(tags) => {
+            let tags = tags.print_query(alloc)?;
+            format!(in alloc; "tags '{}'", tags.as_str())
+        }
+        Operation::Hold(hold) => format!(in alloc; "hold {hold}"),
+        Operation::Copy { .. } => String::from_str(alloc, "copies"),
+        Operation::Replicate => String::from_str(alloc, "replicates"),
+    }
+}
+
+/// What a job is asked to do, over the manifest at a key, and whether its records have versions.
+fn spec_text(alloc: Global, spec: &JobSpec) -> Result<String, AllocError> {
+    let operation = operation_text(alloc, &spec.operation)?;
+    let token = spec.token.as_str();
+    let priority = spec.priority;
+    let confirm = spec.confirm;
+    let bucket = spec.manifest.bucket.as_str();
+    let key = spec.manifest.key.as_str();
+    let id = index_of(&spec.manifest.version);
+    let versions = spec.manifest.versions;
+    format!(in alloc;
+        "job '{token}' {priority} {confirm} {} {bucket} {key} {id} {versions}",
+        operation.as_str()
+    )
+}
+
+/// What is asked of jobs.
+fn job_text(alloc: Global, request: &Request) -> Result<String, AllocError> {
+    match request {
+        Request::CreateJob { spec } => spec_text(alloc, spec),
+        Request::SetJobPriority { id, priority } => {
+            format!(in alloc; "priority of {} {priority}", index_of(id))
+        }
+        Request::SetJobStatus { id, ready } => {
+            format!(in alloc; "status of {} {ready}", index_of(id))
+        }
+        Request::JobTurn { region } => format!(in alloc; "turn {region}"),
+        Request::Work { rounds } => format!(in alloc; "work {rounds}"),
+        Request::CreateBucket { .. }
+        | Request::HeadBucket { .. }
+        | Request::DeleteBucket { .. }
+        | Request::PutVersioning { .. }
+        | Request::GetVersioning { .. }
+        | Request::PutReplication { .. }
+        | Request::GetReplication { .. }
+        | Request::DeleteReplication { .. }
+        | Request::ListVersions { .. }
+        | Request::PutObject { .. }
+        | Request::GetObject { .. }
+        | Request::DeleteObject { .. }
+        | Request::PutTags { .. }
+        | Request::GetTags { .. }
+        | Request::PutHold { .. }
+        | Request::GetHold { .. }
+        | Request::Copy { .. } => String::from_str(alloc, "?"),
     }
 }
 
@@ -51,11 +112,11 @@ fn bucket_text(alloc: Global, request: &Request) -> Result<String, AllocError> {
             let place = place_text(alloc, after)?;
             format!(in alloc; "list '{}' {} {limit}", prefix.as_str(), place.as_str())
         }
-        _ => String::from_str(alloc, "?"),
+        other => job_text(alloc, other),
     }
 }
 
-/// A request of the desk in words. Versions are named by their index, 0 standing for none.
+/// A request of the desk in words. Versions and jobs are named by their index, 0 standing for none.
 pub fn request_text(alloc: Global, request: &Request) -> Result<String, AllocError> {
     match request {
         Request::PutObject {
@@ -133,9 +194,9 @@ pub fn lines(alloc: Global, cells: &str) -> Result<String, RowFault> {
     asked(alloc, lines.as_str(), "")
 }
 
-/// `body | TARGET | BODY`: a PUT with this body.
-pub fn body(alloc: Global, cells: &str) -> Result<String, RowFault> {
+/// `body | TARGET | BODY` or `post | TARGET | BODY`: a PUT or a POST with this body.
+pub fn body(alloc: Global, method: &str, cells: &str) -> Result<String, RowFault> {
     let (target, body) = first_cell(cells);
-    let lines = format!(in alloc; "PUT {target} HTTP/1.1\r\n")?;
+    let lines = format!(in alloc; "{method} {target} HTTP/1.1\r\n")?;
     asked(alloc, lines.as_str(), body)
 }

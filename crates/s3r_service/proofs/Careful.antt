@@ -7,7 +7,7 @@ use Rattle.s3r_desk.specs.Events.{Events}
 use Rattle.s3r_desk.specs.Careful.{AreCareful}
 use Rattle.s3r_desk.specs.declared.request.Request.{Request}
 use Rattle.s3r_desk.proofs.Careful.{careful_then}
-use Rattle.s3r_desk.proofs.CopyCareful.{turn_careful}
+use Rattle.s3r_desk.proofs.TurnsCareful as turns
 use Rattle.s3r_api.specs.declared.problem.Problem.{Problem}
 use Rattle.s3r_api.specs.Request.{request_of}
 use Rattle.s3r_service.specs.declared.stop.Ending.{Ending}
@@ -20,7 +20,7 @@ use Rattle.s3r_service.specs.Laws.{IsClosing, RunsAreCareful}
 
 step_careful : (n : ℕ) (room : ℕ → ℕ) (before : Events) (seen : Image) (asked : Result Request Problem) (outcome : Outcome) (step : Events)
     → IsStepOf n room before seen asked outcome step → AreCareful n before step
-step_careful n room before seen asked (Ok result) step is = turn_careful _ n room before is.0 result step is.2
+step_careful n room before seen asked (Ok result) step is = turns.turns_careful n room seen before is.0 result step is.2
 step_careful n room before seen asked (Err problem) step is = subst (λ (l : Events). AreCareful n before l) (sym is.1) tt
 
 occasion_careful : (n : ℕ) (room : ℕ → ℕ) (before : Events) (seen : Image) (o : Occasion) (step : Events) → ComesTo n room before seen o step

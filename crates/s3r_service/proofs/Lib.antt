@@ -1,7 +1,7 @@
 mod Fronts
-mod Passing
+pub mod Passing
 mod Careful
-mod Silent
+pub mod Silent
 mod Telling
 mod Running
 mod Runs

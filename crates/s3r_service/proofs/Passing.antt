@@ -97,7 +97,7 @@ nil_front : {A : Type 0} (xs ys : List A) → xs ++ ys ≡ [] → xs ≡ []
 nil_front [] ys e = refl
 nil_front {A} (x ∷ xs) ys e = absurd cc
 
-brings_progress : (n : ℕ) (events : Events) (a b : Image) → output_of events ≡ [] → Progress n events a b → Brings n events a b
+pub brings_progress : (n : ℕ) (events : Events) (a b : Image) → output_of events ≡ [] → Progress n events a b → Brings n events a b
 brings_progress n events a b silent p = record {
   volume = p.volume;
   output =

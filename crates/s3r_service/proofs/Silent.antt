@@ -1,19 +1,31 @@
 -- The desk puts nothing out.
 use Rattle.std.proofs.Common.{◌≡◌, ℕ, Bool, true, false, List, [], ◌∷◌, ◌++◌, Option, Some, None, Result, Ok, Err, refl, ◌∙◌, ap, ⊎_elim}
+use Rattle.s3r_jobs.specs.declared.turn.NextStep.{NextStep}
+use Rattle.s3r_batches.specs.Turns.{step_after}
+use Rattle.s3r_world.specs.Image.{Image}
 use Rattle.s3r_history.specs.Words.{History}
 use Rattle.s3r_history.specs.declared.due.Due.{Due}
 use Rattle.s3r_desk.specs.declared.copy_outcome.CopyOutcome.{CopyOutcome}
 use Rattle.s3r_desk.specs.declared.copy_outcome.CopyOutcome.TheVariants as outcomes
 use Rattle.s3r_desk.specs.declared.fault.DeskFault.{DeskFault}
 use Rattle.s3r_desk.specs.declared.fault.DeskFault.TheVariants as faults
+use Rattle.s3r_desk.specs.declared.job_outcome.JobOutcome.{JobOutcome}
+use Rattle.s3r_desk.specs.declared.worker_turn.WorkerTurn.{WorkerTurn}
+use Rattle.s3r_desk.specs.declared.worker_turn.WorkerTurn.TheVariants as worker
+use Rattle.s3r_desk.specs.declared.worker_turn.TurnOutcome.{TurnOutcome}
+use Rattle.s3r_desk.specs.declared.turning.Turn.{Turn}
+use Rattle.s3r_desk.specs.declared.turning.Turn.TheVariants.{Step, Copy, Jobs, Work}
 use Rattle.s3r_desk.specs.declared.request.Request.{Request}
 use Rattle.s3r_desk.specs.declared.request.Answer.{Answer}
 use Rattle.s3r_desk.specs.Events.{found, began, answered, Events, history_at}
 use Rattle.s3r_desk.specs.Steps.{Commit, Histories, made, after_commit, step}
 use Rattle.s3r_desk.specs.Comparing.{disagreement}
 use Rattle.s3r_desk.specs.Stopping.{StopsAt, IsStarved}
-use Rattle.s3r_desk.specs.Copying.{clean, IsMissed, IsTry, TurnsOut, IsTouched}
-use Rattle.s3r_desk.specs.Responds.{IsBelow, AreTouched, Comes, StepsUnless, IsStepTurn, pair_of, IsCopied, TurnsBy, IsTurn}
+use Rattle.s3r_desk.specs.Copying.{clean, IsMissed, IsTry, TurnsOut, IsTouched, IsCopyTurn}
+use Rattle.s3r_desk.specs.JobTurns.{StepComes, StepOrIdle, IsJobTurn}
+use Rattle.s3r_desk.specs.Rounds.{rounds}
+use Rattle.s3r_desk.specs.Works.{Reads, IsWorkerTurn, Made, Then, AreMade}
+use Rattle.s3r_desk.specs.Responds.{IsBelow, AreTouched, Comes, StepsUnless, IsStepTurn, turn_of, IsCopied, IsStepped, IsWorked, TurnsBy, IsTurn}
 use Rattle.s3r_service.specs.Passing.{output_of}
 use Rattle.s3r_service.proofs.Passing.{output_then}
 
@@ -108,21 +120,82 @@ turns_out_silent room s d now events (Err faults.OutOfMemory) fails = ⊎_elim
     w)
     fails
 
-copied_silent : (P : ℕ → History → Type 0) (room : ℕ → ℕ) (s d : ℕ) (before : Events) (result : Result Answer DeskFault) (events : Events) (b : Bool)
-    → IsCopied P room s d before result events b → output_of events ≡ []
-copied_silent P room s d before result events true did =
-    let t = did.2 in
+pub copy_silent : (P : ℕ → History → Type 0) (room : ℕ → ℕ) (s d : ℕ) (before : Events) (result : Result CopyOutcome DeskFault) (events : Events)
+    → IsCopyTurn P room s d before result events → output_of events ≡ []
+copy_silent P room s d before result events t =
     ap output_of t.parts ∙ output_then t.rest (t.receiver ++ t.sender) ∙ ap (λ (l : List ℕ). l ++ output_of t.rest) (output_then t.receiver t.sender
     ∙ ap (λ (l : List ℕ). l ++ output_of t.receiver) (one_silent P before s t.sender t.touches_sender)
     ∙ one_silent P (t.sender ++ before) d t.receiver t.touches_receiver)
-    ∙ turns_out_silent room s d ((t.receiver ++ t.sender) ++ before) t.rest did.0 t.comes
+    ∙ turns_out_silent room s d ((t.receiver ++ t.sender) ++ before) t.rest result t.comes
+
+copied_silent : (P : ℕ → History → Type 0) (room : ℕ → ℕ) (s d : ℕ) (before : Events) (result : Result Answer DeskFault) (events : Events) (b : Bool)
+    → IsCopied P room s d before result events b → output_of events ≡ []
+copied_silent P room s d before result events true did = copy_silent P room s d before did.0 events did.2
 copied_silent P room s d before result events false did = ap output_of did.1
 
-turns_by_silent : (P : ℕ → History → Type 0) (n : ℕ) (room : ℕ → ℕ) (before : Events) (request : Request) (result : Result Answer DeskFault)
-    (events : Events) (pair : Option (ℕ × ℕ)) → TurnsBy pair P n room before request result events → output_of events ≡ []
-turns_by_silent P n room before request result events None turn = step_silent P n room before request result events turn
-turns_by_silent P n room before request result events (Some pair) turn = copied_silent P room pair.0 pair.1 before result events _ turn
+-- a turn of a region's jobs puts out nothing
+job_comes_silent : (room : ℕ → ℕ) (r : ℕ) (h : History) (step : NextStep) (events : Events) (result : Result JobOutcome DeskFault)
+    → StepComes room r h step events result → output_of events ≡ []
+job_comes_silent room r h step events (Ok outcome) comes = ap output_of comes.2
+job_comes_silent room r h step events (Err (faults.Volume v)) comes = ap output_of comes.2
+job_comes_silent room r h step events (Err (faults.Full v)) comes = ap output_of comes.2
+job_comes_silent room r h step events (Err (faults.Damaged v offset)) comes = absurd comes
+job_comes_silent room r h step events (Err (faults.Disagree from to sent last settled received)) comes = absurd comes
+job_comes_silent room r h step events (Err faults.OutOfMemory) comes = ap output_of comes
 
-pub turn_silent : (P : ℕ → History → Type 0) (n : ℕ) (room : ℕ → ℕ) (before : Events) (request : Request) (result : Result Answer DeskFault) (events : Events)
-    → IsTurn P n room before request result events → output_of events ≡ []
-turn_silent P n room before request result events turn = turns_by_silent P n room before request result events (pair_of request) turn
+or_idle_silent : (o : Option NextStep) (n : ℕ) (room : ℕ → ℕ) (r : ℕ) (h : History) (events : Events) (result : Result JobOutcome DeskFault)
+    → StepOrIdle o n room r h events result → output_of events ≡ []
+or_idle_silent None n room r h events result did = ap output_of did.1
+or_idle_silent (Some step) n room r h events result did = job_comes_silent room r h step events result did.comes
+
+pub jobs_silent : (P : ℕ → History → Type 0) (n : ℕ) (room : ℕ → ℕ) (r : ℕ) (before : Events) (result : Result JobOutcome DeskFault) (events : Events)
+    → IsJobTurn P n room r before result events → output_of events ≡ []
+jobs_silent P n room r before result events t =
+    ap output_of t.parts ∙ output_then t.rest t.touched ∙ ap (λ (l : List ℕ). l ++ output_of t.rest) (one_silent P before r t.touched t.touches)
+    ∙ ⊎_elim
+    (λ w. or_idle_silent (step_after r (history_at (t.touched ++ before) r)) n room r (history_at (t.touched ++ before) r) t.rest result w.1)
+    (λ none. ap output_of none.0)
+    t.comes
+
+stepped_silent : (P : ℕ → History → Type 0) (n : ℕ) (room : ℕ → ℕ) (r : ℕ) (before : Events) (result : Result Answer DeskFault) (events : Events) (b : Bool)
+    → IsStepped P n room r before result events b → output_of events ≡ []
+stepped_silent P n room r before result events true did = jobs_silent P n room r before did.0 events did.2
+stepped_silent P n room r before result events false did = ap output_of did.1
+
+-- nor do turns one after another
+pub worker_silent : (turn : WorkerTurn) (n : ℕ) (room : ℕ → ℕ) (now : Image) (before : Events) (result : Result TurnOutcome DeskFault) (events : Events)
+    → IsWorkerTurn turn n room now before result events → output_of events ≡ []
+worker_silent (worker.Copy s d) n room now before result events did = copy_silent (Reads n now) room s d before did.0 events did.2
+worker_silent (worker.Jobs r) n room now before result events did = jobs_silent (Reads n now) n room r before did.0 events did.2
+
+turns_made_silent : (turns : List WorkerTurn) (n : ℕ) (room : ℕ → ℕ) (start : Image) (before past : Events) (made : Made) (events : Events)
+    → AreMade turns n room start before past made events → output_of events ≡ []
+turns_made_silent [] n room start before past made events did = ap output_of did.1
+turns_made_silent (turn ∷ turns) n room start before past made events did =
+    behind did.3 (worker_silent turn n room did.0 (past ++ before) did.3 did.2 did.4)
+    (λ rest ahead. turns_made_silent turns n room start before (did.2 ++ past) rest ahead) did.5
+  where
+    behind : (result : Result TurnOutcome DeskFault) → output_of did.2 ≡ []
+        → ((rest : Made) (ahead : Events) → AreMade turns n room start before (did.2 ++ past) rest ahead → output_of ahead ≡ [])
+        → Then n did.0 result did.2 made events (λ rest ahead. AreMade turns n room start before (did.2 ++ past) rest ahead) → output_of events ≡ []
+    behind (Ok outcome) one all t =
+        ap output_of t.3 ∙ output_then t.1 did.2 ∙ ap (λ (l : List ℕ). l ++ output_of t.1) one ∙ all t.0 t.1 t.4
+    behind (Err fault) one all t = ap output_of t.1 ∙ one
+
+worked_silent : (n : ℕ) (room : ℕ → ℕ) (seen : Image) (k : ℕ) (before : Events) (result : Result Answer DeskFault) (events : Events)
+    → IsWorked n room seen k before result events → output_of events ≡ []
+worked_silent n room seen k before result events did = ⊎_elim
+    (λ w. turns_made_silent (rounds k n) n room seen before [] w.0 events w.1)
+    (λ none. ap output_of none.1)
+    did
+
+turns_by_silent : (n : ℕ) (room : ℕ → ℕ) (seen : Image) (before : Events) (request : Request) (result : Result Answer DeskFault)
+    (events : Events) (t : Turn) → TurnsBy t n room seen before request result events → output_of events ≡ []
+turns_by_silent n room seen before request result events Step turn = step_silent (Reads n seen) n room before request result events turn.0
+turns_by_silent n room seen before request result events (Copy s d) turn = copied_silent (Reads n seen) room s d before result events _ turn.0
+turns_by_silent n room seen before request result events (Jobs r) turn = stepped_silent (Reads n seen) n room r before result events _ turn.0
+turns_by_silent n room seen before request result events (Work k) turn = worked_silent n room seen k before result events turn
+
+pub turn_silent : (n : ℕ) (room : ℕ → ℕ) (seen : Image) (before : Events) (request : Request) (result : Result Answer DeskFault) (events : Events)
+    → IsTurn n room seen before request result events → output_of events ≡ []
+turn_silent n room seen before request result events turn = turns_by_silent n room seen before request result events (turn_of request) turn

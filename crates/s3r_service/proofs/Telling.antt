@@ -91,9 +91,9 @@ module _ (before : Events) (room : ℕ → ℕ) (raw : RawRequest) (result : Res
   replies_step request answer is did reply = record {
     outcome = Ok answer;
     step = did.events;
-    is = (request, is, did.turn, did.damage);
+    is = (request, is, did.turn);
     reply = reply;
-    passes = passes_happens (length a) did.events old new (turn_silent (AsRead (length a) old) (length a) room before request answer did.events did.turn)
+    passes = passes_happens (length a) did.events old new (turn_silent (length a) room old.as_read before request answer did.events did.turn)
         did.happens;
     keeps = did.keeps;
     input = did.happens.input;

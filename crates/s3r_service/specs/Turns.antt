@@ -3,14 +3,13 @@ use Rattle.std.specs.Prelude.{◌≡◌, ℕ, ◌+◌, Bool, false, List, [], �
 use Rattle.s3r_world.specs.Image.{Image}
 use Rattle.s3r_world.specs.declared.world.Side.TheVariants as side
 use Rattle.s3r_world.specs.Outside.{Counts, NoneFalls, Rises}
-use Rattle.s3r_store.specs.Stands.{StandsFor}
 use Rattle.s3r_desk.specs.declared.fault.DeskFault.{DeskFault}
 use Rattle.s3r_desk.specs.declared.request.Request.{Request}
 use Rattle.s3r_desk.specs.declared.request.Answer.{Answer}
 use Rattle.s3r_desk.specs.Events.{Events, answered}
 use Rattle.s3r_desk.specs.Copying as copying
 use Rattle.s3r_desk.specs.Copying.{attempts_about}
-use Rattle.s3r_desk.specs.Responds.{IsTurn, IsDamage}
+use Rattle.s3r_desk.specs.Responds.{IsTurn}
 use Rattle.s3r_http.specs.declared.message.RawRequest.{RawRequest}
 use Rattle.s3r_http.specs.Request.{SpellsRequest}
 use Rattle.s3r_api.specs.declared.problem.Problem.{Problem}
@@ -44,7 +43,7 @@ answer_to raw (Err problem) = problem_text problem (is_head raw) raw.last
 -- The request asks for this, and the desk made its step, with the volumes as they are seen; or it asks for nothing.
 abbrev pub IsStepOf : ℕ → (ℕ → ℕ) → Events → Image → Result Request Problem → Outcome → Events → Type 0
 IsStepOf n room before seen asked (Ok result) step =
-    (request : Request) × (asked ≡ Ok request) × IsTurn (λ r h. StandsFor n r h (seen.volume r)) n room before request result step × IsDamage n seen result
+    (request : Request) × (asked ≡ Ok request) × IsTurn n room seen before request result step
 IsStepOf n room before seen asked (Err problem) step = Fails problem asked × (step ≡ [])
 
 -- the outcome is a fault of this volume

@@ -1,6 +1,6 @@
 use Rattle.s3r_desk.proofs.Careful.{careful_then, careful_part, known_is}
 use Rattle.s3r_desk.proofs.Agreeing.{keeps_agreement}
-use Rattle.s3r_desk.proofs.CopyCareful.{turns_careful}
+use Rattle.s3r_desk.proofs.TurnsCareful.{turns_careful}
 use Rattle.s3r_desk.proofs.laws.careful_events_keep_agreement.Goals as goal
 
 pub returns-clause-agree : goal.returns-clause-agree

@@ -6,7 +6,8 @@ use Rattle.s3r_world.specs.Image.{Image}
 use Rattle.s3r_world.specs.Moments.{looks_then, shape_then, falls_then}
 use Rattle.s3r_journal.proofs.Elsewhere.{left_looks}
 use Rattle.s3r_desk.specs.declared.fault.DeskFault.{DeskFault}
-use Rattle.s3r_desk.specs.Responds.{FailsAt, IsDamage}
+use Rattle.s3r_desk.specs.Damage.{IsDamage}
+use Rattle.s3r_desk.specs.Responds.{FailsAt}
 use Rattle.s3r_desk.proofs.Places.{get_at}
 use Rattle.s3r_desk.proofs.Stepping.{looks_none}
 use Rattle.s3r_desk.proofs.Touched.{touches_none, touches_ok, touches_not}

@@ -2,7 +2,8 @@ use Rattle.std.proofs.Common.{◌≡◌, ℕ, ◌+◌, length, IsSome, None, ◌
 use Rattle.std.proofs.lemmas.Result.{on_ok_weaker, on_err_weaker}
 use Rattle.s3r_store.specs.declared.store.Store.{Store}
 use Rattle.s3r_journal.proofs.Elsewhere.{left_looks}
-use Rattle.s3r_desk.specs.Responds.{FailsAt, IsDamage}
+use Rattle.s3r_desk.specs.Damage.{IsDamage}
+use Rattle.s3r_desk.specs.Responds.{FailsAt}
 use Rattle.s3r_desk.proofs.Places.{get_at}
 use Rattle.s3r_desk.proofs.Keeps.{numbered_set, tied_set}
 use Rattle.s3r_desk.proofs.OneStore.{store_set, left_set}
